@@ -1,0 +1,1 @@
+// No code: what the definitions of the crates above say about lists, once.

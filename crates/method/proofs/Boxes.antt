@@ -9,10 +9,6 @@ use native.Mathlib.Omega.{arith}
 use Rattle.method.proofs.Sets.{Set, bit, row, K}
 use Rattle.method.proofs.Sums.{sum-none, sum-split, sum-same, sum-add, sum-le, sum-part, sum-term, sum-zero, sum-find}
 
-pub bool-cases : {C : Type 0} (b : Bool) → (b ≡ true → C) → (b ≡ false → C) → C
-bool-cases true f g = f refl
-bool-cases false f g = g refl
-
 pub true-bit : (b : Bool) → 0 < bit b → b ≡ true
 true-bit true h = refl
 true-bit false h = absurd (omega arith)
@@ -24,12 +20,12 @@ bit-same false true h = absurd (omega arith)
 bit-same false false h = refl
 
 -- the second box holds the first
-abbrev pub Within : (l0 l1 r0 r1 k0 k1 s0 s1 : ℕ) → Type 0
-Within l0 l1 r0 r1 k0 k1 s0 s1 = (k0 ≤ l0) × (l1 ≤ k1) × (s0 ≤ r0) × (r1 ≤ s1)
+abbrev pub BoxInside : (l0 l1 r0 r1 k0 k1 s0 s1 : ℕ) → Type 0
+BoxInside l0 l1 r0 r1 k0 k1 s0 s1 = (k0 ≤ l0) × (l1 ≤ k1) × (s0 ≤ r0) × (r1 ≤ s1)
 
 -- (l, r) lies in the box
-abbrev pub In : (l r l0 l1 r0 r1 : ℕ) → Type 0
-In l r l0 l1 r0 r1 = (l0 ≤ l) × (l < l1) × (r0 < r) × (r ≤ r1)
+abbrev pub InBox : (l r l0 l1 r0 r1 : ℕ) → Type 0
+InBox l r l0 l1 r0 r1 = (l0 ≤ l) × (l < l1) × (r0 < r) × (r ≤ r1)
 
 module _ (S : Set) where
   pub K-rows : (l0 m l1 r0 r1 : ℕ) → l0 ≤ m → m ≤ l1 → K S l0 l1 r0 r1 ≡ K S l0 m r0 r1 + K S m l1 r0 r1
@@ -52,7 +48,7 @@ module _ (S : Set) where
   K-no-lines l0 l1 r0 r1 h =
       sum-zero (λ l. row S l r0 r1) l0 l1 .1 (λ l _ _. sum-none (λ r. bit (S l r)) (suc r0) (suc r1) (omega arith))
 
-  pub K-grows : (l0 l1 r0 r1 k0 k1 s0 s1 : ℕ) → Within l0 l1 r0 r1 k0 k1 s0 s1 → K S l0 l1 r0 r1 ≤ K S k0 k1 s0 s1
+  pub K-grows : (l0 l1 r0 r1 k0 k1 s0 s1 : ℕ) → BoxInside l0 l1 r0 r1 k0 k1 s0 s1 → K S l0 l1 r0 r1 ≤ K S k0 k1 s0 s1
   unfolding K row
   K-grows l0 l1 r0 r1 k0 k1 s0 s1 w =
       omega (
@@ -63,10 +59,10 @@ module _ (S : Set) where
       )
 
   -- a box within an empty one is empty
-  pub K-empty : (l0 l1 r0 r1 k0 k1 s0 s1 : ℕ) → K S k0 k1 s0 s1 ≡ 0 → Within l0 l1 r0 r1 k0 k1 s0 s1 → K S l0 l1 r0 r1 ≡ 0
+  pub K-empty : (l0 l1 r0 r1 k0 k1 s0 s1 : ℕ) → K S k0 k1 s0 s1 ≡ 0 → BoxInside l0 l1 r0 r1 k0 k1 s0 s1 → K S l0 l1 r0 r1 ≡ 0
   K-empty l0 l1 r0 r1 k0 k1 s0 s1 z w = omega (arith, K-grows l0 l1 r0 r1 k0 k1 s0 s1 w)
 
-  pub K-has : (l r l0 l1 r0 r1 : ℕ) → S l r ≡ true → In l r l0 l1 r0 r1 → 0 < K S l0 l1 r0 r1
+  pub K-has : (l r l0 l1 r0 r1 : ℕ) → S l r ≡ true → InBox l r l0 l1 r0 r1 → 0 < K S l0 l1 r0 r1
   unfolding K row
   K-has l r l0 l1 r0 r1 m i =
       omega (
@@ -76,7 +72,7 @@ module _ (S : Set) where
         sum-term (λ l. row S l r0 r1) l0 l l1 (i .0) (i .1),
       )
 
-  pub K-find : (l0 l1 r0 r1 : ℕ) → 0 < K S l0 l1 r0 r1 → (l r : ℕ) × (S l r ≡ true) × In l r l0 l1 r0 r1
+  pub K-find : (l0 l1 r0 r1 : ℕ) → 0 < K S l0 l1 r0 r1 → (l r : ℕ) × (S l r ≡ true) × InBox l r l0 l1 r0 r1
   unfolding K row
   K-find l0 l1 r0 r1 h =
       let i = sum-find (λ l. row S l r0 r1) l0 l1 h in
@@ -84,17 +80,17 @@ module _ (S : Set) where
       (i .0, j .0, true-bit (S (i .0) (j .0)) (j .3), omega arith)
 
   -- two members in different rows are parted by a row, two on different lines by a line
-  K-two-rows : (l r k s l0 l1 r0 r1 : ℕ) → S l r ≡ true → S k s ≡ true → In l r l0 l1 r0 r1 → In k s l0 l1 r0 r1 → l < k
+  K-two-rows : (l r k s l0 l1 r0 r1 : ℕ) → S l r ≡ true → S k s ≡ true → InBox l r l0 l1 r0 r1 → InBox k s l0 l1 r0 r1 → l < k
       → 2 ≤ K S l0 l1 r0 r1
   K-two-rows l r k s l0 l1 r0 r1 m n i j h =
       omega (arith, K-rows l0 k l1 r0 r1 (omega arith) (omega arith), K-has l r l0 k r0 r1 m (omega arith), K-has k s k l1 r0 r1 n (omega arith))
 
-  K-two-lines : (l r k s l0 l1 r0 r1 : ℕ) → S l r ≡ true → S k s ≡ true → In l r l0 l1 r0 r1 → In k s l0 l1 r0 r1 → r < s
+  K-two-lines : (l r k s l0 l1 r0 r1 : ℕ) → S l r ≡ true → S k s ≡ true → InBox l r l0 l1 r0 r1 → InBox k s l0 l1 r0 r1 → r < s
       → 2 ≤ K S l0 l1 r0 r1
   K-two-lines l r k s l0 l1 r0 r1 m n i j h =
       omega (arith, K-lines l0 l1 r0 r r1 (omega arith) (omega arith), K-has l r l0 l1 r0 r m (omega arith), K-has k s l0 l1 r r1 n (omega arith))
 
-  pub K-two : (l r k s l0 l1 r0 r1 : ℕ) → S l r ≡ true → S k s ≡ true → In l r l0 l1 r0 r1 → In k s l0 l1 r0 r1
+  pub K-two : (l r k s l0 l1 r0 r1 : ℕ) → S l r ≡ true → S k s ≡ true → InBox l r l0 l1 r0 r1 → InBox k s l0 l1 r0 r1
       → ((l ≡ k) × (r ≡ s) → ⊥) → 2 ≤ K S l0 l1 r0 r1
   K-two l r k s l0 l1 r0 r1 m n i j apart =
       by-cases (decLt l k) (K-two-rows l r k s l0 l1 r0 r1 m n i j)
@@ -102,7 +98,7 @@ module _ (S : Set) where
       (λ v. by-cases (decLt r s) (K-two-lines l r k s l0 l1 r0 r1 m n i j)
       (λ w. by-cases (decLt s r) (K-two-lines k s l r l0 l1 r0 r1 n m j i) (λ z. absurd (apart (omega arith))))))
 
-pub K-same : (S T : Set) (l0 l1 r0 r1 : ℕ) → ((l r : ℕ) → In l r l0 l1 r0 r1 → S l r ≡ T l r) → K S l0 l1 r0 r1 ≡ K T l0 l1 r0 r1
+pub K-same : (S T : Set) (l0 l1 r0 r1 : ℕ) → ((l r : ℕ) → InBox l r l0 l1 r0 r1 → S l r ≡ T l r) → K S l0 l1 r0 r1 ≡ K T l0 l1 r0 r1
 unfolding K row
 K-same S T l0 l1 r0 r1 each =
     sum-same (λ l. row S l r0 r1) (λ l. row T l r0 r1) l0 l1

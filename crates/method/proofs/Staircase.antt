@@ -7,7 +7,8 @@ use Prim.Native.Nat.{ℕ, zero, suc, pred, min, max, _≤_, _<_}
 use native.Mathlib.Decide.{decLe, decLt, le-ind}
 use native.Mathlib.Omega.{arith}
 use Rattle.method.proofs.Sets.{Set, K, Dep, Prefix, top, e}
-use Rattle.method.proofs.Boxes.{bool-cases, K-rows, K-lines, K-empty, K-has, K-find}
+use Rattle.lists.proofs.Truth.{bcase}
+use Rattle.method.proofs.Boxes.{K-rows, K-lines, K-empty, K-has, K-find}
 
 top-hit : (f : ℕ → Bool) (n : ℕ) → f (suc n) ≡ true → top f (suc n) ≡ suc n
 unfolding top
@@ -20,19 +21,19 @@ top-miss f n h = ap (λ z. cond z (suc n) (top f n)) h
 pub top-le : (f : ℕ → Bool) (n : ℕ) → top f n ≤ n
 unfolding top
 top-le f zero = omega arith
-top-le f (suc n) = bool-cases (f (suc n)) (λ h. omega (arith, top-hit f n h)) (λ h. omega (arith, top-miss f n h, top-le f n))
+top-le f (suc n) = bcase (f (suc n)) (λ h. omega (arith, top-hit f n h)) (λ h. omega (arith, top-miss f n h, top-le f n))
 
 pub top-passes : (f : ℕ → Bool) (n : ℕ) → 0 < top f n → f (top f n) ≡ true
 unfolding top
 top-passes f zero h = absurd (omega arith)
 top-passes f (suc n) h =
-    bool-cases (f (suc n)) (λ z. ap f (top-hit f n z) ∙ z)
+    bcase (f (suc n)) (λ z. ap f (top-hit f n z) ∙ z)
     (λ z. ap f (top-miss f n z) ∙ top-passes f n (omega (arith, top-miss f n z)))
 
 pub top-greatest : (f : ℕ → Bool) (n r : ℕ) → f r ≡ true → r ≤ n → r ≤ top f n
 top-greatest f zero r m h = omega arith
 top-greatest f (suc n) r m h =
-    bool-cases (f (suc n)) (λ z. omega (arith, top-hit f n z))
+    bcase (f (suc n)) (λ z. omega (arith, top-hit f n z))
     (λ z. by-cases (decLe r n) (λ k. omega (arith, top-miss f n z, top-greatest f n r m k))
     (λ k. let q : r ≡ suc n = omega arith in absurd (true≢false (sym m ∙ ap f q ∙ z))))
 
@@ -134,7 +135,7 @@ module _ {S : Set} {a b : ℕ} (P : Prefix S a b) where
   -- F3: at a jump past the first row the meet is no member
   pub e-new : (p : ℕ) → a < p → p < b → e S a b p < e S a b (suc p) → S p (e S a b p) ≡ false
   e-new p low high jump =
-      bool-cases (S p (e S a b p)) (λ m. absurd (P .shortest (e S a b p) (omega (arith, e-ahead p low high)) inside
+      bcase (S p (e S a b p)) (λ m. absurd (P .shortest (e S a b p) (omega (arith, e-ahead p low high)) inside
       (record { proper = omega (arith, e-ahead p low high); twice = λ x u v. twice m x u v }))) (λ m. m)
     where
       inside : e S a b p < b

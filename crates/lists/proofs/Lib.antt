@@ -4,3 +4,4 @@ pub mod Keep
 pub mod Ranges
 pub mod Pairs
 pub mod Counting
+pub mod Searches

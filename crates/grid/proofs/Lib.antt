@@ -1,0 +1,14 @@
+pub mod Edges
+pub mod Index
+pub mod Next
+pub mod Gaps
+pub mod Reaches
+pub mod Areas
+pub mod Leftmost
+pub mod Broken
+pub mod Pigeonhole
+pub mod Run
+pub mod Independence
+pub mod Tried
+pub mod Outcome
+pub mod Determined

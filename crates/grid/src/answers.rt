@@ -1,0 +1,60 @@
+// Document 01's answers: a number and its place.
+ghost use mathlib.Core.Path.{_≡_};
+ghost use Rattle.grid.specs.Answers.{answer, done, refused};
+
+pub struct Answer {
+    pub number: u64,
+    pub x: u64,
+    pub y: u64,
+}
+
+pub const DONE: u64 = 0;
+
+pub const SIZE_OUT: u64 = 1;
+
+pub const RASTER_LENGTH: u64 = 2;
+
+pub const FLASH_ROOM_SHORT: u64 = 3;
+
+pub const MARK_ROOM_SHORT: u64 = 4;
+
+pub const TEXT_ROOM_SHORT: u64 = 5;
+
+pub const ALLOWANCE_OUT: u64 = 6;
+
+pub const BAD_BYTE: u64 = 7;
+
+pub const BROKEN_COLUMN: u64 = 8;
+
+pub const ALLOWANCE_SHORT: u64 = 9;
+
+pub const TEXT_LONG: u64 = 10;
+
+pub const BAD_LINE: u64 = 11;
+
+pub const RASTER_ROOM_SHORT: u64 = 12;
+
+impl Answer {
+    pub fn done() -> Answer
+        ensures { λ r. ⌜ r ≡ done ⌝ }
+    {
+        Answer {
+            number: DONE,
+            x: 0,
+            y: 0,
+        }
+    }
+
+    // A refusal for which no place is named.
+    pub fn refused(number: u64) -> Answer
+        ensures { λ r. ⌜ r ≡ refused number ⌝ }
+    {
+        Answer { number, x: 0, y: 0 }
+    }
+
+    pub fn at(number: u64, x: u64, y: u64) -> Answer
+        ensures { λ r. ⌜ r ≡ answer number x y ⌝ }
+    {
+        Answer { number, x, y }
+    }
+}

@@ -19,6 +19,7 @@ pub mod Jumps
 pub mod Outermost
 pub mod RuleFour
 pub mod Facts
+pub mod InOrder
 -- Runs, the final set, and the marks' rule.
 pub mod Search
 pub mod AnyOrder

@@ -1,0 +1,60 @@
+-- Every public function's contract determines its outcome: no second result fits, and no second table.
+-- Each `ensures` is an equation of the result, or of the table as it is left, with a definition.
+use mathlib.Core.Path.{refl, sym, _∙_}
+use Rattle.grid.proofs.Outcome.{Determined}
+use Rattle.intervals.proofs.table.interval_at
+use Rattle.intervals.proofs.table.empty
+use Rattle.intervals.proofs.table.copy
+use Rattle.intervals.proofs.table.has
+use Rattle.intervals.proofs.table.put
+use Rattle.intervals.proofs.table.take
+use Rattle.intervals.proofs.table.is_empty
+use Rattle.intervals.proofs.strike.held
+use Rattle.intervals.proofs.strike.least
+use Rattle.intervals.proofs.strike.strike
+use Rattle.intervals.proofs.dependent.dependent
+use Rattle.intervals.proofs.bracket.bracket
+use Rattle.intervals.proofs.reduce.reduce
+use Rattle.intervals.proofs.final_set.final_set
+
+pub interval-at-determined : Determined interval_at.Kinds.ps interval_at.Kinds.r interval_at.Reads.Pre interval_at.Reads.Post
+interval-at-determined κs a pre x y v w p q = (p ∙ sym q, refl)
+
+pub empty-determined : Determined empty.Kinds.ps empty.Kinds.r empty.Reads.Pre empty.Reads.Post
+empty-determined κs a pre x y v w p q = (p ∙ sym q, refl)
+
+pub copy-determined : Determined copy.Kinds.ps copy.Kinds.r copy.Reads.Pre copy.Reads.Post
+copy-determined κs a pre x y v w p q = (refl, λ i. (tt, ((p ∙ sym q) i, tt)))
+
+pub has-determined : Determined has.Kinds.ps has.Kinds.r has.Reads.Pre has.Reads.Post
+has-determined κs a pre x y v w p q = (p ∙ sym q, refl)
+
+pub put-determined : Determined put.Kinds.ps put.Kinds.r put.Reads.Pre put.Reads.Post
+put-determined κs a pre x y v w p q = (refl, λ i. ((p ∙ sym q) i, v .1))
+
+pub take-determined : Determined take.Kinds.ps take.Kinds.r take.Reads.Pre take.Reads.Post
+take-determined κs a pre x y v w p q = (refl, λ i. ((p ∙ sym q) i, v .1))
+
+pub is-empty-determined : Determined is_empty.Kinds.ps is_empty.Kinds.r is_empty.Reads.Pre is_empty.Reads.Post
+is-empty-determined κs a pre x y v w p q = (p ∙ sym q, refl)
+
+pub held-determined : Determined held.Kinds.ps held.Kinds.r held.Reads.Pre held.Reads.Post
+held-determined κs a pre x y v w p q = (p ∙ sym q, refl)
+
+pub least-determined : Determined least.Kinds.ps least.Kinds.r least.Reads.Pre least.Reads.Post
+least-determined κs a pre x y v w p q = (p ∙ sym q, refl)
+
+pub strike-determined : Determined strike.Kinds.ps strike.Kinds.r strike.Reads.Pre strike.Reads.Post
+strike-determined κs a pre x y v w p q = (refl, λ i. ((p ∙ sym q) i, v .1))
+
+pub dependent-determined : Determined dependent.Kinds.ps dependent.Kinds.r dependent.Reads.Pre dependent.Reads.Post
+dependent-determined κs a pre x y v w p q = (p ∙ sym q, refl)
+
+pub bracket-determined : Determined bracket.Kinds.ps bracket.Kinds.r bracket.Reads.Pre bracket.Reads.Post
+bracket-determined κs a pre x y v w p q = (p ∙ sym q, refl)
+
+pub reduce-determined : Determined reduce.Kinds.ps reduce.Kinds.r reduce.Reads.Pre reduce.Reads.Post
+reduce-determined κs a pre x y v w p q = (refl, λ i. ((p ∙ sym q) i, v .1))
+
+pub final-set-determined : Determined final_set.Kinds.ps final_set.Kinds.r final_set.Reads.Pre final_set.Reads.Post
+final-set-determined κs a pre x y v w p q = (refl, λ i. ((p ∙ sym q) i, v .1))

@@ -1,0 +1,6 @@
+pub mod TableLaws
+pub mod CellOrder
+pub mod RowCounts
+pub mod ReduceRows
+pub mod NextSteps
+pub mod Determined

@@ -1,0 +1,34 @@
+// Rule 5's bracket: the minimal one with the least right line.
+ghost use mathlib.Core.Path.{_≡_};
+ghost use Rattle.method.specs.Final.{leftmost};
+ghost use Rattle.intervals.specs.Table.{setOf, Tabled, foundOf};
+use crate::Found;
+use crate::Table;
+use crate::dependent::dependent;
+use grid::lines::Interval;
+use grid::lines::Line;
+
+// The first dependent bracket by right line, and there the shortest.
+pub fn bracket(t: &Table, last: Line) -> Found
+    requires { ⌜ Tabled (last .0) (now t) ⌝ }
+    ensures { λ r. ⌜ r ≡ foundOf (leftmost (last .0) (setOf (last .0) (now (t .entry)))) ⌝ }
+{
+    let mut right = 0;
+    'search: loop {
+        if last.0 <= right {
+            break 'search Found::Nothing;
+        }
+        right += 1;
+        let mut left = right;
+        while 0 < left {
+            left -= 1;
+            let d = Interval {
+                left: Line(left),
+                right: Line(right),
+            };
+            if dependent(t, last, d) {
+                break 'search Found::At(d);
+            }
+        }
+    }
+}

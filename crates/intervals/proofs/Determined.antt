@@ -9,6 +9,7 @@ use Rattle.intervals.proofs.table.has
 use Rattle.intervals.proofs.table.put
 use Rattle.intervals.proofs.table.take
 use Rattle.intervals.proofs.table.is_empty
+use Rattle.intervals.proofs.table.size
 use Rattle.intervals.proofs.strike.held
 use Rattle.intervals.proofs.strike.least
 use Rattle.intervals.proofs.strike.strike
@@ -37,6 +38,9 @@ take-determined κs a pre x y v w p q = (refl, λ i. ((p ∙ sym q) i, v .1))
 
 pub is-empty-determined : Determined is_empty.Kinds.ps is_empty.Kinds.r is_empty.Reads.Pre is_empty.Reads.Post
 is-empty-determined κs a pre x y v w p q = (p ∙ sym q, refl)
+
+pub size-determined : Determined size.Kinds.ps size.Kinds.r size.Reads.Pre size.Reads.Post
+size-determined κs a pre x y v w p q = (p ∙ sym q, refl)
 
 pub held-determined : Determined held.Kinds.ps held.Kinds.r held.Reads.Pre held.Reads.Post
 held-determined κs a pre x y v w p q = (p ∙ sym q, refl)

@@ -1,27 +1,26 @@
 -- Rule 4 row by row on a table's set: before line l the rows are reduced, from l on they are as they were.
 -- What `furthest` finds is the staircase's next step; at a jump one interval of the row is dropped and the meet is put.
 use mathlib.Core.Path.{_≡_, refl, sym, ap, _∙_, fun-ext}
-use mathlib.Core.Bool.{Bool, true, false, cond, _&&_}
+use mathlib.Core.Bool.{true, false}
 use mathlib.Core.List.{List}
 use mathlib.Core.Logic.{by-cases, ite, if-pos, if-neg}
-use Prim.Native.Nat.{ℕ, zero, suc, _+_, _-_, _≤_, _<_, min, max}
+use Prim.Native.Nat.{ℕ, zero, suc, _+_, _≤_, _<_, max}
 use native.Mathlib.Omega.{arith}
 use native.Mathlib.Decide.{decLt, ℕ-discrete}
-use lib.Dec.{leb, ltb}
-use borrow.Author.Tests.{ltb-true, ltb-false, lt-ltb, le-ltb, le-leb}
-use Rattle.lists.proofs.Truth.{bcase, never, fails, agree}
-use Rattle.method.specs.Intervals.{Interval as Span, span, proper, same, meet, member}
+use lib.Dec.{ltb}
+use borrow.Author.Tests.{ltb-true, ltb-false, lt-ltb, le-ltb}
+use Rattle.lists.proofs.Truth.{bcase, fails}
+use Rattle.method.specs.Intervals.{Interval as Span, span, member}
 use Rattle.method.specs.Reduce.{reduce}
 use Rattle.method.specs.Runs.{Listed}
 use Rattle.method.proofs.Sets.{Set, has, top, e, red}
-use Rattle.method.proofs.Staircase.{top-le, e-low, e-step, e-mono, e-jump, e-attained}
+use Rattle.method.proofs.Staircase.{top-le, e-step, e-jump, e-attained}
 use Rattle.method.proofs.Star.{Jump, Place, drop, add, keep, place, red-same, red-before, red-after}
 use Rattle.method.proofs.RuleFour.{rule-four}
-use Rattle.method.proofs.Lines.{same-path, path-same, lines-proper}
-use Rattle.method.proofs.Listed.{member-select, select-listed, listed-lines, listed-equal}
-use Rattle.intervals.specs.Table.{setOf, tableOf, Tabled, changed}
+use Rattle.method.proofs.Listed.{select-listed, listed-lines, listed-equal}
+use Rattle.intervals.specs.Table.{changed}
 use Rattle.intervals.specs.Reach.{reach}
-use Rattle.intervals.proofs.TableLaws.{set-listed, set-table, tabled, changed-listed, changed-here, changed-other}
+use Rattle.intervals.proofs.TableLaws.{changed-listed, changed-here, changed-other}
 
 -- one turn of `furthest`
 module _ (s : List Span) (l p : ℕ) where

@@ -1,31 +1,29 @@
 -- The counts of `dependent`: what a row adds to a column, right line by right line, and the rows of a bracket one after the other.
 -- A row's count of a column is a box of one row; the rows before line l hold what is counted so far; after row l column l is done.
-use mathlib.Core.Path.{_≡_, refl, sym, ap, _∙_}
+use mathlib.Core.Path.{_≡_, refl, _∙_}
 use mathlib.Core.Bool.{Bool, true, false, _&&_}
 use mathlib.Core.List.{List, [], _∷_}
 use mathlib.Core.Logic.{by-cases}
-use Prim.Native.Nat.{ℕ, zero, suc, _+_, _*_, _-_, _≤_, _<_}
+use Prim.Native.Nat.{ℕ, suc, _+_, _*_, _≤_, _<_}
 use native.Mathlib.Omega.{arith}
 use native.Mathlib.Decide.{decLt, ℕ-discrete}
 use lib.Dec.{leb, ltb, eqb}
-use lib.ListN.{length, getD}
-use borrow.Author.Tests.{eqb-true, leb-true, ltb-true, eq-eqb, ne-eqb, le-leb, lt-leb, lt-ltb, le-ltb}
+use lib.ListN.{length}
+use borrow.Author.Tests.{eqb-true, leb-true, ltb-true, eq-eqb, ne-eqb, le-leb, lt-ltb, le-ltb}
 use Rattle.lists.specs.Lists.{count, upTo}
-use Rattle.lists.proofs.Truth.{bcase, never, fails, agree, and-left, and-right, and-both}
-use Rattle.lists.proofs.Members.{In}
-use Rattle.lists.proofs.Keep.{count-same, count-zero, count-rest}
+use Rattle.lists.proofs.Truth.{fails, and-left, and-right, and-both}
+use Rattle.lists.proofs.Keep.{count-same, count-zero, count-at-most}
 use Rattle.lists.proofs.Members.{none-any}
 use Rattle.lists.proofs.Ranges.{length-from}
-use Rattle.method.specs.Intervals.{Interval as Span, span, holds, inside, member}
+use Rattle.method.specs.Intervals.{Interval as Span, span, holds, inside}
 use Rattle.method.specs.Dependent.{coveredInside}
 use Rattle.method.specs.Runs.{Listed}
 use Rattle.method.proofs.Sets.{Set, has, bit, row, K}
 use Rattle.method.proofs.Sums.{sum-one}
 use Rattle.method.proofs.Boxes.{K-lines}
 use Rattle.method.proofs.Counts.{count-box}
-use Rattle.method.proofs.Lines.{holds-lines, lines-hold, inside-lines, lines-inside}
-use Rattle.method.proofs.Listed.{in-member, listed-lines}
-use Rattle.grid.specs.Limits.{side, lines}
+use Rattle.method.proofs.Lines.{holds-lines, lines-hold, inside-lines}
+use Rattle.grid.specs.Limits.{lines}
 use Rattle.intervals.specs.Table.{cells, setOf, Tabled}
 use Rattle.intervals.specs.Counts.{heldFrom}
 use Rattle.intervals.proofs.CellOrder.{isOn, length-cells}
@@ -88,7 +86,7 @@ held-none s l b c h =
 
 pub held-bound : (s : List Span) (l b c : ℕ) → heldFrom s l b c ≤ length s
 unfolding heldFrom
-held-bound s l b c = omega (arith, count-rest (rowTest l b c) s)
+held-bound s l b c = count-at-most (rowTest l b c) s
 
 -- tests that a later one makes needless, and one that is apart from the rest
 implied : (x y z : Bool) → (z ≡ true → y ≡ true) → (x && y && z) ≡ (x && z)
@@ -112,7 +110,7 @@ soFar s a b l c = count (soFarTest a b l c) s
 
 module _ (s : List Span) (a b : ℕ) where
   pub so-bound : (l c : ℕ) → soFar s a b l c ≤ length s
-  so-bound l c = omega (arith, count-rest (soFarTest a b l c) s)
+  so-bound l c = count-at-most (soFarTest a b l c) s
 
   pub so-none : (c : ℕ) → soFar s a b a c ≡ 0
   so-none c =
@@ -152,4 +150,4 @@ module _ (s : List Span) (a b : ℕ) where
       (λ t. let w = holds-lines l i t in lt-ltb (i .left) (l + 1) (omega arith)))
 
 pub set-bound : {n : ℕ} {t : List ℕ} → Tabled n t → length (setOf n t) ≤ cells
-set-bound {n} {t} T = omega (arith, T .fits, length-cells T, count-rest (isOn t) (upTo (n * lines)), length-from 0 (n * lines))
+set-bound {n} {t} T = omega (arith, T .fits, length-cells T, count-at-most (isOn t) (upTo (n * lines)), length-from 0 (n * lines))

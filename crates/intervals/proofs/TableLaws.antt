@@ -1,21 +1,21 @@
 -- A table and the set that it holds: each byte is one membership, and a table of a set holds that set.
 -- By the cell's number, left line * 65 + right line, which gives both lines back. Every function over a table crosses here.
-use mathlib.Core.Path.{_≡_, refl, sym, ap, _∙_}
-use mathlib.Core.Bool.{Bool, true, false, cond, not, _&&_, _||_}
-use mathlib.Core.List.{List, [], _∷_, map}
+use mathlib.Core.Path.{_≡_, refl, sym, ap, _∙_, subst⁻¹}
+use mathlib.Core.Bool.{Bool, true, false, cond, _&&_}
+use mathlib.Core.List.{List, []}
 use mathlib.Core.Logic.{by-cases}
-use Prim.Native.Nat.{ℕ, zero, suc, _+_, _*_, _/_, _%_, _≤_, _<_}
+use Prim.Native.Nat.{ℕ, _+_, _*_, _/_, _%_, _≤_, _<_}
 use native.Mathlib.Omega.{arith}
 use native.Mathlib.Decide.{ℕ-discrete}
-use lib.Dec.{leb, ltb, eqb}
+use lib.Dec.{leb, eqb}
 use borrow.Author.Tests.{leb-true, le-leb}
-use lib.ListN.{length, getD, set, replicate, length-map, length-set, length-replicate, getD-replicate}
+use lib.ListN.{length, getD, set, replicate, length-set, length-replicate, getD-replicate}
 use mir.Val.{boolByte}
-use lib.Seq.{ext-getD, getD-set-same, getD-set-other}
-use Rattle.lists.specs.Lists.{from, upTo}
+use lib.Seq.{getD-set-same, getD-set-other}
 use Rattle.lists.proofs.Truth.{agree, never, fails, and-left, and-right, and-both}
-use Rattle.lists.proofs.Ranges.{length-from}
-use Rattle.method.specs.Intervals.{Interval as Span, span, proper, same, select, member}
+use Rattle.lists.proofs.Keep.{keep-none}
+use Rattle.lists.proofs.Maps.{length-upTo, at-upTo, is-upTo}
+use Rattle.method.specs.Intervals.{Interval as Span, proper, same, every, member}
 use Rattle.method.specs.Runs.{Listed}
 use Rattle.method.proofs.Sets.{bit}
 use Rattle.method.proofs.Lines.{same-path, path-same, proper-lines, lines-proper}
@@ -32,22 +32,6 @@ bit-test false = refl
 pub cast-bit : (b : Bool) → boolByte b ≡ bit b
 cast-bit true = refl
 cast-bit false = refl
-
--- a list that is numbered: its elements, and what it takes to be one
-pub at-from : (f : ℕ → ℕ) (a m k : ℕ) → k < m → getD (map f (from a m)) k 0 ≡ f (a + k)
-at-from f a zero k h = absurd (omega arith)
-at-from f a (suc m) zero h = let e : a ≡ a + 0 = omega arith in ap f e
-at-from f a (suc m) (suc k) h = let e : suc a + k ≡ a + suc k = omega arith in at-from f (suc a) m k (omega arith) ∙ ap f e
-
-pub length-upTo : (f : ℕ → ℕ) (m : ℕ) → length (map f (upTo m)) ≡ m
-length-upTo f m = length-map (upTo m) f ∙ length-from 0 m
-
-pub at-upTo : (f : ℕ → ℕ) (m k : ℕ) → k < m → getD (map f (upTo m)) k 0 ≡ f k
-at-upTo f m k h = let e : 0 + k ≡ k = omega arith in at-from f 0 m k h ∙ ap f e
-
-pub is-upTo : (f : ℕ → ℕ) (m : ℕ) (t : List ℕ) → length t ≡ m → ((k : ℕ) → k < m → getD t k 0 ≡ f k) → t ≡ map f (upTo m)
-is-upTo f m t e h =
-    ext-getD 0 t (map f (upTo m)) (e ∙ sym (length-upTo f m)) (λ k u. h k (omega arith) ∙ sym (at-upTo f m k (omega arith)))
 
 -- a cell gives its interval back, and an interval its cell
 pub span-cell : (i : Span) → i .right < lines → spanAt (cellOf i) ≡ i
@@ -97,6 +81,10 @@ module _ (n : ℕ) (s : List Span) (fits : n ≤ side) (listed : Listed n s) whe
 
   pub tabled : Tabled n (tableOf s)
   tabled = record { fits = fits; whole = ap tableOf (sym set-table) }
+
+  -- what a function leaves as the table of a set: it is one, and holds that set
+  pub left-as : {t : List ℕ} → t ≡ tableOf s → Tabled n t × (setOf n t ≡ s)
+  left-as e = (subst⁻¹ (Tabled n) e tabled, ap (setOf n) e ∙ set-table)
 
 module _ {n : ℕ} {t : List ℕ} (T : Tabled n t) where
   pub tabled-length : length t ≡ cells
@@ -180,6 +168,10 @@ module _ {n : ℕ} {t : List ℕ} (T : Tabled n t) where
 
   pub change-none : (i : Span) (b : Bool) → ((i .left < i .right) × (i .right ≤ n) → ⊥) → t ≡ tableOf (changed n i b (setOf n t))
   change-none i b h = T .whole ∙ ap tableOf (changed-none n i b (setOf n t) (set-listed n t) h)
+
+-- no interval is a set over any lines
+pub empty-listed : (n : ℕ) → Listed n []
+empty-listed n = sym (keep-none (λ i. false) (every n) (λ i m. refl))
 
 -- the table of no interval
 pub empty-table : (m : ℕ) → m ≡ cells → replicate m 0 ≡ tableOf []

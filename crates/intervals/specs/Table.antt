@@ -51,6 +51,7 @@ abbrev pub foundOf : Option Span → Found
 foundOf none = Nothing
 foundOf (some i) = At (intervalOf i)
 
+-- whether it was
 abbrev pub isFound : Option Span → Bool
 isFound none = false
 isFound (some i) = true

@@ -13,9 +13,10 @@ pub fn bracket(t: &Table, last: Line) -> Found
     requires { ⌜ Tabled (last .0) (now t) ⌝ }
     ensures { λ r. ⌜ r ≡ foundOf (leftmost (last .0) (setOf (last .0) (now (t .entry)))) ⌝ }
 {
+    let end = last.0;
     let mut right = 0;
     'search: loop {
-        if last.0 <= right {
+        if end <= right {
             break 'search Found::Nothing;
         }
         right += 1;

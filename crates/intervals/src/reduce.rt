@@ -34,6 +34,7 @@ fn furthest(t: &Table, last: Line, left: Line, from: Line, to: Line) -> Line
 }
 
 // One pass over left lines, with the last outermost interval so far: the next one reaches beyond it, and their meet takes its place.
+// It starts with none, the empty interval at the bracket's left line; `put` leaves an empty meet out.
 pub fn reduce(t: &mut Table, last: Line, d: Interval)
     requires { ⌜ Tabled (last .0) (now t) ⌝ }
     ensures { λ r. ⌜ now (t .exit) ≡ tableOf (reduce (last .0) (setOf (last .0) (now (t .entry))) (spanOf d)) ⌝ }

@@ -23,6 +23,7 @@ fn holds_at(t: &Table, k: usize, column: Column) -> bool
     t[k] == 1 && interval_at(k).holds(column)
 }
 
+// How many intervals hold the column.
 pub fn held(t: &Table, last: Line, column: Column) -> usize
     requires { ⌜ Tabled (last .0) (now t) ⌝ }
     ensures { λ r. ⌜ r ≡ count (holds (column .0)) (setOf (last .0) (now (t .entry))) ⌝ }
@@ -49,6 +50,7 @@ pub fn least(t: &Table, last: Line, column: Column) -> Found
     Found::Nothing
 }
 
+// Strikes every interval that holds the column.
 pub fn strike(t: &mut Table, last: Line, column: Column)
     requires { ⌜ Tabled (last .0) (now t) ⌝ }
     ensures { λ r. ⌜ now (t .exit) ≡ tableOf (strike (column .0) (setOf (last .0) (now (t .entry)))) ⌝ }

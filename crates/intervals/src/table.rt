@@ -37,9 +37,14 @@ pub fn interval_at(k: usize) -> Interval
 fn within(last: Line, i: Interval) -> bool
     ensures { λ r. ⌜ r ≡ (proper (spanOf i) && leb (i .right .0) (last .0)) ⌝ }
 {
-    i.left.0 < i.right.0 && i.right.0 <= last.0
+    let all = Interval {
+        left: Line(0),
+        right: last,
+    };
+    all.contains(i)
 }
 
+// The table of no interval.
 pub fn empty() -> Table
     ensures { λ r. ⌜ r ≡ tableOf [] ⌝ }
 {
@@ -52,6 +57,7 @@ pub fn copy(from: &Table, to: &mut Table)
     *to = *from;
 }
 
+// The interval is in the set.
 pub fn has(t: &Table, last: Line, i: Interval) -> bool
     requires { ⌜ Tabled (last .0) (now t) ⌝ }
     ensures { λ r. ⌜ r ≡ member (spanOf i) (setOf (last .0) (now (t .entry))) ⌝ }
@@ -75,6 +81,7 @@ fn change(t: &mut Table, last: Line, i: Interval, held: bool)
     }
 }
 
+// Puts the interval into the set.
 pub fn put(t: &mut Table, last: Line, i: Interval)
     requires { ⌜ Tabled (last .0) (now t) ⌝ }
     ensures { λ r. ⌜ now (t .exit) ≡ tableOf (with (last .0) (spanOf i) (setOf (last .0) (now (t .entry)))) ⌝ }
@@ -82,6 +89,7 @@ pub fn put(t: &mut Table, last: Line, i: Interval)
     change(t, last, i, true);
 }
 
+// Takes the interval out of the set.
 pub fn take(t: &mut Table, last: Line, i: Interval)
     requires { ⌜ Tabled (last .0) (now t) ⌝ }
     ensures { λ r. ⌜ now (t .exit) ≡ tableOf (without (last .0) (spanOf i) (setOf (last .0) (now (t .entry)))) ⌝ }
@@ -89,6 +97,7 @@ pub fn take(t: &mut Table, last: Line, i: Interval)
     change(t, last, i, false);
 }
 
+// No interval is in the set. Each begins before the last line, so the rows of cells before it have them all.
 pub fn is_empty(t: &Table, last: Line) -> bool
     requires { ⌜ Tabled (last .0) (now t) ⌝ }
     ensures { λ r. ⌜ r ≡ eqb (length (setOf (last .0) (now (t .entry)))) 0 ⌝ }

@@ -9,3 +9,4 @@ pub mod Positions
 pub mod Related
 pub mod Keyed
 pub mod Blocks
+pub mod Maps

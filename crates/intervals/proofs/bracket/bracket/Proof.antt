@@ -2,8 +2,7 @@
 use mathlib.Core.Path.{_≡_, refl, sym, ap, _∙_}
 use mathlib.Core.Bool.{true, false}
 use mathlib.Core.List.{List}
-use mathlib.Core.Option.{Option, none, some}
-use Prim.Native.Nat.{ℕ, zero, suc, _+_, _-_, _≤_, _<_}
+use Prim.Native.Nat.{ℕ, suc, _+_, _-_, _≤_, _<_}
 use native.Mathlib.Omega.{arith}
 use Rattle.method.specs.Intervals.{Interval as Span, span}
 use Rattle.method.specs.Dependent.{dependent}
@@ -24,16 +23,16 @@ abbrev Passing : ℕ → List Span → ℕ → ℕ → Type 0
 Passing n s r l = (upward s n 1 ≡ upward s (suc (n - r)) r) × (downward s r r ≡ downward s r l)
 
 abbrev Inv-loop : tie.InvT-loop
-Inv-loop t last right left₀ left = (right ≤ last .0) × (left ≤ right) × Passing (last .0) (setOf (last .0) t) right left
+Inv-loop t last end right left₀ left = (right ≤ last .0) × (left ≤ right) × Passing (last .0) (setOf (last .0) t) right left
 
 abbrev μ-loop : tie.MeasureT-loop
-μ-loop t last right left₀ left = left
+μ-loop t last end right left₀ left = left
 
 abbrev Inv-search : tie.InvT-search
-Inv-search t last right₀ right = (right ≤ last .0) × Passed (last .0) (setOf (last .0) t) right
+Inv-search t last end right₀ right = (right ≤ last .0) × Passed (last .0) (setOf (last .0) t) right
 
 abbrev μ-search : tie.MeasureT-search
-μ-search t last right₀ right = last .0 - right
+μ-search t last end right₀ right = last .0 - right
 
 module _ (n : ℕ) (s : List Span) where
   start : Passed n s 0
@@ -68,14 +67,14 @@ search-holds c = (omega arith, start (c .args .last .0) (setOf (c .args .last .0
 
 loop-holds : tie.Need-loop-holds Inv-loop μ-loop Inv-search μ-search
 loop-holds c =
-    let at = c .before .before in
+    let at = c .before in
     let a = at .before .args in
     (omega arith, omega arith, enter (a .last .0) (setOf (a .last .0) (a .t .now)) (at .search .right) (c .if1 .left) (at .search .inv .1))
 
 search-again : tie.Need-search-again Inv-loop μ-loop Inv-search μ-search
 search-again c =
     let at = c .before in
-    let from = at .before .before .before in
+    let from = at .before .before in
     let a = from .before .args in (
       omega arith,
       leave (a .last .0) (setOf (a .last .0) (a .t .now)) (from .search .right + 1) (at .loop .left) (c .loop-test .left) (at .loop .inv .2),
@@ -84,7 +83,7 @@ search-again c =
 loop-again : tie.Need-loop-again Inv-loop μ-loop Inv-search μ-search
 loop-again c =
     let at = c .before .before .before in
-    let from = at .before .before .before in
+    let from = at .before .before in
     let a = from .before .args in (
       omega arith,
       omega arith,
@@ -95,14 +94,14 @@ loop-again c =
 
 returns : tie.Need-returns Inv-loop μ-loop Inv-search μ-search
 returns c =
-    let at = c .before .before in
+    let at = c .before in
     let a = at .before .args in
     over (a .last .0) (setOf (a .last .0) (a .t .now)) (at .search .right) (c .if1 .taken) (at .search .inv .1)
 
 returns-2 : tie.Need-returns-2 Inv-loop μ-loop Inv-search μ-search
 returns-2 c =
     let at = c .before .before .before in
-    let from = at .before .before .before in
+    let from = at .before .before in
     let a = from .before .args in
     hit (a .last .0) (setOf (a .last .0) (a .t .now)) (from .search .right + 1) (at .loop .left) (at .loop .left - 1) (omega arith)
     (sym (c .if2 .taken) ∙ c .before .dependent .ensures)
@@ -122,7 +121,7 @@ bracket-spec =
     (λ c. omega arith)
     search-again
     (λ c. omega arith)
-    (λ c κs. c .before .before .before .before .before .pre)
+    (λ c κs. c .before .before .before .before .pre)
     (λ c. omega arith)
     loop-again
     returns

@@ -1,6 +1,6 @@
 -- `add_row` meets its contract: going left, the running count is that of the row's intervals that reach past line c,
 -- and the columns from c on have had theirs added.
-use mathlib.Core.Path.{_≡_, refl, sym, ap, ap₂, _∙_}
+use mathlib.Core.Path.{_≡_, refl, sym, ap, _∙_}
 use mathlib.Core.Bool.{Bool, true, false}
 use mathlib.Core.List.{List}
 use mathlib.Core.Logic.{by-cases}
@@ -10,12 +10,13 @@ use native.Mathlib.Decide.{decLt, ℕ-discrete}
 use lib.ListN.{length, getD, set, length-set}
 use lib.Seq.{getD-set-same, getD-set-other}
 use mir.Val.{boolByte}
+use Rattle.lists.proofs.Maps.{is-upTo}
 use Rattle.method.specs.Intervals.{Interval as Span, span, member}
 use Rattle.method.specs.Runs.{Listed}
 use Rattle.method.proofs.Sets.{bit}
 use Rattle.intervals.specs.Table.{setOf}
 use Rattle.intervals.specs.Counts.{heldFrom, rowAdded}
-use Rattle.intervals.proofs.TableLaws.{cast-bit, set-listed, is-upTo}
+use Rattle.intervals.proofs.TableLaws.{cast-bit, set-listed}
 use Rattle.intervals.proofs.RowCounts.{held-next, held-none, held-bound, set-bound}
 use Rattle.intervals.proofs.dependent.add_row.Statement.{statement}
 use Rattle.intervals.proofs.dependent.add_row.Tie as tie

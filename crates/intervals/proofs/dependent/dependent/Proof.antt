@@ -8,6 +8,7 @@ use Prim.Native.Nat.{ℕ, _+_, _-_, _≤_, _<_}
 use native.Mathlib.Omega.{arith}
 use native.Mathlib.Decide.{decLt, ℕ-discrete}
 use lib.ListN.{length, getD, replicate, length-replicate, getD-replicate, List·getD-eq-default}
+use Rattle.lists.proofs.Maps.{length-upTo, at-upTo}
 use Rattle.lists.proofs.Truth.{fails}
 use Rattle.method.specs.Intervals.{Interval as Span, span}
 use Rattle.method.specs.Dependent.{coveredInside, dependent}
@@ -17,7 +18,7 @@ use Rattle.grid.specs.Limits.{side}
 use Rattle.grid.specs.Lines.{spanOf}
 use Rattle.intervals.specs.Table.{cells, setOf, Tabled}
 use Rattle.intervals.specs.Counts.{heldFrom, rowAdded}
-use Rattle.intervals.proofs.TableLaws.{set-listed, length-upTo, at-upTo}
+use Rattle.intervals.proofs.TableLaws.{set-listed}
 use Rattle.intervals.proofs.RowCounts.{soFar, so-bound, so-none, so-next, so-done, set-bound}
 use Rattle.intervals.proofs.dependent.dependent.Statement.{statement}
 use Rattle.intervals.proofs.dependent.dependent.Tie as tie

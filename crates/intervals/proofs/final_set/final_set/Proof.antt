@@ -1,5 +1,5 @@
 -- `final_set` meets its contract: each turn leaves the final set as it is and takes one interval away; where no bracket is left, the set is final.
-use mathlib.Core.Path.{_≡_, refl, sym, ap, _∙_, subst⁻¹}
+use mathlib.Core.Path.{_≡_, refl, sym, ap, _∙_}
 use mathlib.Core.Bool.{true, false}
 use mathlib.Core.List.{List}
 use Prim.Native.Nat.{ℕ, _<_}
@@ -7,7 +7,7 @@ use native.Mathlib.Omega.{arith}
 use lib.ListN.{length}
 use Rattle.method.specs.Final.{leftmost, reduced, final}
 use Rattle.intervals.specs.Table.{setOf, tableOf, Tabled, isFound}
-use Rattle.intervals.proofs.TableLaws.{set-listed, set-table, tabled}
+use Rattle.intervals.proofs.TableLaws.{set-listed, left-as}
 use Rattle.intervals.proofs.NextSteps.{next-done, next-listed, next-final, next-less}
 use Rattle.intervals.proofs.final_set.final_set.Statement.{statement}
 use Rattle.intervals.proofs.final_set.final_set.Tie as tie
@@ -24,18 +24,14 @@ abbrev μ-loop : tie.MeasureT-loop
 μ-loop t₀ last t = length (setOf (last .0) t)
 
 module _ {n : ℕ} {u t v : List ℕ} (W : OnWay n u t) (step : v ≡ tableOf (reduced n 1 (setOf n t))) where
-  known : setOf n v ≡ reduced n 1 (setOf n t)
-  known = ap (setOf n) step ∙ set-table n (reduced n 1 (setOf n t)) (W .table .fits) (next-listed n (setOf n t) (set-listed n t))
+  left : Tabled n v × (setOf n v ≡ reduced n 1 (setOf n t))
+  left = left-as n (reduced n 1 (setOf n t)) (W .table .fits) (next-listed n (setOf n t) (set-listed n t)) step
 
   next : OnWay n u v
-  next =
-      record {
-        table = subst⁻¹ (Tabled n) step (tabled n (reduced n 1 (setOf n t)) (W .table .fits) (next-listed n (setOf n t) (set-listed n t)));
-        same = W .same ∙ next-final n (setOf n t) (set-listed n t) ∙ ap (final n) (sym known);
-      }
+  next = record { table = left .0; same = W .same ∙ next-final n (setOf n t) (set-listed n t) ∙ ap (final n) (sym (left .1)) }
 
   less : isFound (leftmost n (setOf n t)) ≡ true → length (setOf n v) < length (setOf n t)
-  less found = omega (arith, ap length known, next-less n (setOf n t) (set-listed n t) found)
+  less found = omega (arith, ap length (left .1), next-less n (setOf n t) (set-listed n t) found)
 
   done : isFound (leftmost n (setOf n t)) ≡ false → v ≡ tableOf (final n (setOf n u))
   done f = step ∙ ap tableOf (next-done n (setOf n t) f ∙ sym (W .same))

@@ -1,8 +1,7 @@
 -- `reduce_next` meets its contract: by what `bracket` finds.
-use mathlib.Core.Path.{_≡_, sym, ap, _∙_}
+use mathlib.Core.Path.{sym, ap, _∙_}
 use borrow.Author.Needs.{needs}
 use Rattle.method.specs.Final.{leftmost}
-use Rattle.grid.specs.Lines.{spanOf}
 use Rattle.intervals.specs.Table.{setOf, tableOf, isFound}
 use Rattle.intervals.proofs.NextSteps.{found-nothing, found-at, next-none, next-some}
 use Rattle.intervals.proofs.final_set.reduce_next.Statement.{statement}

@@ -1,9 +1,9 @@
 -- `reduce` meets its contract: before line l the rows are as rule 4 leaves them, and the interval that is carried reaches as far as the staircase.
-use mathlib.Core.Path.{_≡_, refl, sym, ap, ap₂, _∙_, subst, subst⁻¹}
+use mathlib.Core.Path.{_≡_, sym, ap, ap₂, _∙_, subst⁻¹}
 use mathlib.Core.Bool.{true, false}
 use mathlib.Core.List.{List}
 use mathlib.Core.Logic.{⊎-elim}
-use Prim.Native.Nat.{ℕ, suc, _+_, _-_, _≤_, _<_, min, max}
+use Prim.Native.Nat.{ℕ, suc, _+_, _-_, _≤_, _<_}
 use native.Mathlib.Omega.{arith}
 use native.Mathlib.Numerals.{add-one}
 use borrow.Author.Needs.{needs}
@@ -11,12 +11,11 @@ use Rattle.method.specs.Intervals.{Interval as Span, span, meet}
 use Rattle.method.specs.Reduce.{reduce}
 use Rattle.method.proofs.Sets.{has, e}
 use Rattle.method.proofs.Staircase.{e-low, e-mono}
-use Rattle.method.proofs.Star.{Jump}
 use Rattle.method.proofs.Lines.{interval-path}
 use Rattle.grid.specs.Lines.{spanOf}
 use Rattle.intervals.specs.Table.{setOf, tableOf, Tabled, changed, with, without}
 use Rattle.intervals.specs.Reach.{reach}
-use Rattle.intervals.proofs.TableLaws.{set-listed, set-table, tabled, changed-listed}
+use Rattle.intervals.proofs.TableLaws.{set-listed, left-as, changed-listed}
 use Rattle.intervals.proofs.ReduceRows.{Half, half-start, half-reach, half-level, half-jump, half-end}
 use Rattle.intervals.proofs.reduce.reduce.Statement.{statement}
 use Rattle.intervals.proofs.reduce.reduce.Tie as tie
@@ -65,17 +64,16 @@ module _ {n a b : ℕ} {u : List ℕ} {l : ℕ} {t : List ℕ} {o : Span} (T : T
       let fits = T .table .fits in
       let r = next-reach in
       let s = T .reached in
-      let known = changed-listed n (meet o (span l q)) true (setOf n t1) in
-      let one : setOf n t1 ≡ without n (span l q) (setOf n t) = ap (setOf n) e1 ∙ set-table n (without n (span l q) (setOf n t)) fits (changed-listed n (span l q) false (setOf n t)) in
-      let two : setOf n t2 ≡ with n (meet o (span l q)) (setOf n t1) = ap (setOf n) e2 ∙ set-table n (with n (meet o (span l q)) (setOf n t1)) fits known in
+      let one = left-as n (without n (span l q) (setOf n t)) fits (changed-listed n (span l q) false (setOf n t)) e1 in
+      let two = left-as n (with n (meet o (span l q)) (setOf n t1)) fits (changed-listed n (meet o (span l q)) true (setOf n t1)) e2 in
       let m : meet o (span l q) ≡ span l (e (has (setOf n u)) a b l) = interval-path (meet o (span l q)) (span l (e (has (setOf n u)) a b l)) (omega (arith, T .begun)) (omega arith) in
       record {
         low = omega (arith, T .low);
-        table = subst⁻¹ (Tabled n) e2 (tabled n (with n (meet o (span l q)) (setOf n t1)) fits known);
+        table = two .0;
         reached = r ∙ more;
         begun = omega arith;
         half =
-            subst⁻¹ (Half n a b (setOf n u) (l + 1)) (two ∙ ap₂ (λ i s. changed n i true s) m (one ∙ ap (λ z. without n (span l z) (setOf n t)) r))
+            subst⁻¹ (Half n a b (setOf n u) (l + 1)) (two .1 ∙ ap₂ (λ i s. changed n i true s) m (one .1 ∙ ap (λ z. without n (span l z) (setOf n t)) r))
             (half-jump n (set-listed n u) a b (T .half) (record { from = T .low; upto = below; rise = omega arith }));
       }
 
@@ -103,8 +101,9 @@ put-requires : tie.Need-put-requires Inv-loop μ-loop
 put-requires c κs =
     let at = c .before .before .before .before .before .before .before .before .before .before .before in
     let n = at .before .before .before .args .last .0 in
-    subst⁻¹ (Tabled n) (c .before .before .take .ensures)
-    (tabled n _ (at .loop .inv .table .fits) (changed-listed n (span (at .loop .l) (c .before .before .before .before .before .before .before .furthest .result .0)) false (setOf n (at .loop .t))))
+    let next = span (at .loop .l) (c .before .before .before .before .before .before .before .furthest .result .0) in
+    left-as n (without n next (setOf n (at .loop .t))) (at .loop .inv .table .fits) (changed-listed n next false (setOf n (at .loop .t)))
+    (c .before .before .take .ensures) .0
 
 loop-again : tie.Need-loop-again Inv-loop μ-loop
 loop-again c =

@@ -11,7 +11,7 @@ use borrow.Author.Tests.{ltb-false, lt-ltb, le-ltb}
 use lib.Dec.{ltb}
 use lib.ListN.{length, getD, set, length-set}
 use lib.Seq.{getD-set-same, getD-set-other}
-use Rattle.lists.proofs.Truth.{bcase, fails}
+use Rattle.lists.proofs.Truth.{fails}
 use Rattle.method.specs.Intervals.{holds, member}
 use Rattle.method.specs.Strike.{strike}
 use Rattle.method.proofs.Listed.{member-keep, listed-lines}

@@ -1,13 +1,13 @@
--- `within` meets its contract: the two tests one after the other are the conjunction.
-use borrow.Author.Tests.{lt-ltb, le-ltb}
+-- `within` meets its contract: every interval begins at line 0 or after.
+use mathlib.Core.Path.{_∙_}
+use native.Mathlib.Omega.{arith}
+use borrow.Author.Needs.{needs}
+use borrow.Author.Tests.{le-leb}
 use Rattle.intervals.proofs.table.within.Statement.{statement}
 use Rattle.intervals.proofs.table.within.Tie as tie
 
 returns : tie.Need-returns
-returns c = rw (lt-ltb _ _ (c .before .before .if1 .taken))
-
-returns-2 : tie.Need-returns-2
-returns-2 c = rw (le-ltb _ _ (c .if1 .left))
+returns c = c .contains .ensures ∙ rw (le-leb 0 (c .before .args .i .left .0) (omega arith))
 
 pub within-spec : {M : Type 1} → statement M
-within-spec = tie.close (tie.spec returns returns-2)
+within-spec = tie.close (tie.spec (λ c κs. search needs) returns)

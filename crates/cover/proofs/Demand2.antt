@@ -1,0 +1,47 @@
+-- Demand 2: on success the rooms hold the flashes and marks that the rules give, the flashes cover the copper and nothing else, and the counts and the copper number are those of the records.
+-- A success has passed every check, so the columns are unbroken and the flashes cover; the records are read back as they were written.
+use mathlib.Core.Path.{_≡_, refl, sym, ap, subst}
+use mathlib.Core.List.{List}
+use Prim.Native.Nat.{ℕ}
+use native.Mathlib.Omega.{arith}
+use lib.Dec.{ltb}
+use lib.ListN.{length}
+use Rattle.lists.proofs.Truth.{bcase}
+use Rattle.grid.specs.Squares.{Area, InGrid, Unbroken, Cover}
+use Rattle.grid.specs.Raster.{areaOf}
+use Rattle.grid.proofs.Areas.{area-in-grid}
+use Rattle.cover.specs.Flashes.{flashes, copperNumber}
+use Rattle.cover.specs.Marks.{marks}
+use Rattle.cover.specs.Cover.{Given, Gives, covered, answered}
+use Rattle.cover.specs.Demand2.{Sound}
+use Rattle.cover.specs.declared.entry.Outcome.{Outcome}
+use Rattle.cover.proofs.Covering.{flashes-cover}
+use Rattle.cover.proofs.Records.{flashes-read, marks-read}
+use Rattle.cover.proofs.Checks.{outcomes}
+
+covered-sound : (a : Area) (w h : ℕ) (f m : List ℕ) → InGrid w h a → Unbroken a → Sound a w h (covered (flashes a w h) (marks a w h) f m)
+covered-sound a w h f m grid unbroken =
+    let e = flashes-read (flashes a w h) f in
+    record {
+      flashes-ruled = e;
+      marks-ruled = marks-read (marks a w h) m;
+      flash-count = refl;
+      mark-count = refl;
+      copper-number = ap copperNumber (sym e);
+      cover = subst (Cover a) (sym e) (flashes-cover a w h grid unbroken);
+    }
+
+answered-sound : (a : Area) (w h k : ℕ) (f m : List ℕ) → InGrid w h a → Unbroken a → answered a w h k f m .outcome .answer ≡ 0 → Sound a w h (answered a w h k f m)
+answered-sound a w h k f m grid unbroken =
+    bcase (ltb k (length (flashes a w h)))
+    (λ t. rw t (λ e. absurd (omega arith)))
+    (λ t. rw t (λ e. covered-sound a w h f m grid unbroken))
+
+pub demand-2 : (w h k : ℕ) (raster f m : List ℕ) (r : Outcome) (f′ m′ : List ℕ) → Gives w h k raster f m r f′ m′ → r .answer ≡ 0
+    → Sound (areaOf w h raster) w h (record { outcome = r; flashesAfter = f′; marksAfter = m′ })
+demand-2 w h k raster f m r f′ m′ gives =
+    let a = areaOf w h raster in
+    subst (λ (g : Given). g .outcome .answer ≡ 0 → Sound a w h g) (sym gives)
+    (outcomes w h k raster f m (λ g. g .outcome .answer ≡ 0 → Sound a w h g)
+    (λ n x y l u e. absurd (omega arith))
+    (λ q. answered-sound a w h k f m (area-in-grid w h raster) (q .unbroken)))

@@ -1,0 +1,116 @@
+-- The starting set made cell by cell: what stands in the table before cell k, and one cell more.
+-- A cell is one interval, so cell k changes the set at that interval alone, and past the last row of cells nothing is missing.
+-- `put_seen` and `starting` use it.
+use mathlib.Core.Path.{_≡_, sym, ap, _∙_}
+use mathlib.Core.Bool.{Bool, true, false, cond, _&&_, and-false}
+use mathlib.Core.List.{List, []}
+use mathlib.Core.Logic.{by-cases}
+use mathlib.Core.Option.{none, some}
+use Prim.Native.Nat.{ℕ, _+_, _*_, _≤_, _<_}
+use native.Mathlib.Omega.{arith}
+use native.Mathlib.Decide.{decLt, ℕ-discrete}
+use lib.Dec.{ltb}
+use borrow.Author.Tests.{lt-ltb, le-ltb, le-leb}
+use Rattle.lists.specs.Lists.{any, upTo}
+use Rattle.lists.proofs.Truth.{bcase, never}
+use Rattle.lists.proofs.Keep.{keep-none}
+use Rattle.lists.proofs.Searches.{any-within, any-nowhere, down-within, down-missed}
+use Rattle.method.specs.Intervals.{Interval, same, member, every}
+use Rattle.method.specs.Runs.{Listed}
+use Rattle.method.proofs.Lines.{same-path, path-same, lines-proper}
+use Rattle.method.proofs.Listed.{member-select, select-same, select-listed}
+use Rattle.grid.specs.Limits.{side, lines}
+use Rattle.grid.specs.Squares.{Area}
+use Rattle.intervals.specs.Table.{cellOf, spanAt, setOf, tableOf, Tabled, changed, with}
+use Rattle.intervals.proofs.TableLaws.{span-cell, cell-span, set-table, tabled}
+use Rattle.cover.specs.Slices.{slice, starting, markRow}
+use Rattle.cover.specs.Code.{startedTo}
+use Rattle.cover.proofs.Starting.{starting-listed}
+
+-- one number more is passed, and only that one
+passed : (j k : ℕ) → (j ≡ k → ⊥) → ltb j k ≡ ltb j (k + 1)
+passed j k h =
+    by-cases (decLt j k)
+    (λ l. lt-ltb j k l ∙ sym (lt-ltb j (k + 1) (omega arith)))
+    (λ l. le-ltb j k (omega arith) ∙ sym (le-ltb j (k + 1) (omega arith)))
+
+module _ (a : Area) (w h : ℕ) where
+  -- some row shows the interval
+  abbrev shown : Interval → Bool
+  shown i = any (λ y. slice a y i) (upTo h)
+
+  pub row-shows : (i : Interval) {y : ℕ} → markRow a h i ≡ some y → shown i ≡ true
+  unfolding markRow
+  row-shows i {y} e = let r = down-within (λ z. slice a z i) h e in any-within (λ z. slice a z i) 0 h y (omega arith) (omega arith) (r .1)
+
+  pub no-row-shows : (i : Interval) → markRow a h i ≡ none → shown i ≡ false
+  unfolding markRow
+  no-row-shows i e = any-nowhere (λ z. slice a z i) 0 h (λ y l u. down-missed (λ z. slice a z i) h e y (omega arith))
+
+  pub started-listed : (k : ℕ) → Listed w (startedTo a w h k)
+  unfolding startedTo
+  started-listed k = select-listed w (λ i. ltb (cellOf i) k && shown i)
+
+  pub started-none : [] ≡ startedTo a w h 0
+  unfolding startedTo
+  started-none = sym (keep-none (λ i. ltb (cellOf i) 0 && shown i) (every w) (λ i m. rw (le-ltb (cellOf i) 0 (omega arith))))
+
+  -- what has been passed of an interval over the lines
+  member-started : (k : ℕ) (j : Interval) → j .left < j .right → j .right ≤ w → member j (startedTo a w h k) ≡ (ltb (cellOf j) k && shown j)
+  unfolding startedTo
+  member-started k j l r =
+      member-select w (λ i. ltb (cellOf i) k && shown i) j
+      ∙ rw (lines-proper j l, le-leb (j .right) w r)
+
+  module _ (fits : w ≤ side) where
+    pub started-put : (k : ℕ) → shown (spanAt k) ≡ true → with w (spanAt k) (startedTo a w h k) ≡ startedTo a w h (k + 1)
+    unfolding startedTo changed
+    started-put k s =
+        select-same w (λ j. cond (same (spanAt k) j) true (member j (startedTo a w h k))) (λ j. ltb (cellOf j) (k + 1) && shown j)
+        (λ j l r.
+        bcase (same (spanAt k) j)
+        (λ t.
+        let e = same-path (spanAt k) j t in
+        let q : cellOf j ≡ k = sym (ap cellOf e) ∙ cell-span k in
+        rw (t, lt-ltb (cellOf j) (k + 1) (omega arith)) (sym (sym (ap shown e) ∙ s)))
+        (λ t.
+        rw (t, member-started k j l r)
+        (ap (λ b. b && shown j)
+        (passed (cellOf j) k (λ q. never (path-same (spanAt k) j (sym (ap spanAt q) ∙ span-cell j (omega arith))) t)))))
+
+    pub started-skip : (k : ℕ) → shown (spanAt k) ≡ false → startedTo a w h k ≡ startedTo a w h (k + 1)
+    unfolding startedTo
+    started-skip k s =
+        select-same w (λ j. ltb (cellOf j) k && shown j) (λ j. ltb (cellOf j) (k + 1) && shown j)
+        (λ j l r.
+        by-cases (ℕ-discrete (cellOf j) k)
+        (λ q.
+        let e : shown j ≡ false = ap shown (sym (span-cell j (omega arith)) ∙ ap spanAt q) ∙ s in
+        rw (e, and-false (ltb (cellOf j) k), and-false (ltb (cellOf j) (k + 1))))
+        (λ q. ap (λ b. b && shown j) (passed (cellOf j) k q)))
+
+    pub started-all : (k : ℕ) → w * lines ≤ k → startedTo a w h k ≡ starting a w h
+    unfolding startedTo starting
+    started-all k u = select-same w (λ j. ltb (cellOf j) k && shown j) shown (λ j l r. rw (lt-ltb (cellOf j) k (omega arith)))
+
+    -- the same of the table, with the numbers as the code has them
+    module _ {n : ℕ} {t : List ℕ} (k : ℕ) (e : n ≡ w) (q : t ≡ tableOf (startedTo a w h k)) where
+      pub started-tabled : Tabled n t
+      started-tabled = rw (e, q) (tabled w (startedTo a w h k) fits (started-listed k))
+
+      pub put-started : {i : Interval} {y : ℕ} → i ≡ spanAt k → markRow a h i ≡ some y → tableOf (with n i (setOf n t)) ≡ tableOf (startedTo a w h (k + 1))
+      put-started {i} f r =
+          (λ z. tableOf (with (e z) (f z) (setOf (e z) (q z))))
+          ∙ ap (λ s. tableOf (with w (spanAt k) s)) (set-table w (startedTo a w h k) fits (started-listed k))
+          ∙ ap tableOf (started-put k (ap shown (sym f) ∙ row-shows i r))
+
+      pub skip-started : {i : Interval} → i ≡ spanAt k → markRow a h i ≡ none → t ≡ tableOf (startedTo a w h (k + 1))
+      skip-started {i} f r = q ∙ ap tableOf (started-skip k (ap shown (sym f) ∙ no-row-shows i r))
+
+    -- the table of the starting set
+    module _ {t : List ℕ} (q : t ≡ tableOf (starting a w h)) where
+      pub starting-tabled : Tabled w t
+      starting-tabled = rw q (tabled w (starting a w h) fits (starting-listed a w h))
+
+      pub starting-set : setOf w t ≡ starting a w h
+      starting-set = ap (setOf w) q ∙ set-table w (starting a w h) fits (starting-listed a w h)

@@ -1,0 +1,81 @@
+-- The work on an area gives what document 01 says: the final set's flashes and the marks, or the first marks where the flashes are more than the allowance.
+-- There are no more flashes than columns, and as many marks, so counts and rooms suffice. `cover_area` uses it.
+use mathlib.Core.Path.{_≡_, sym, ap, _∙_}
+use mathlib.Core.List.{List, map}
+use Prim.Native.Nat.{ℕ, _+_, _≤_, _<_}
+use native.Mathlib.Numerals.{add-one}
+use native.Mathlib.Omega.{arith}
+use lib.ListN.{length, take, length-map}
+use lib.Seq.{take-all}
+use borrow.Author.Tests.{lt-ltb, le-ltb}
+use Rattle.method.specs.Final.{final}
+use Rattle.method.proofs.Final.{final-listed}
+use Rattle.method.proofs.Marks.{final-short}
+use Rattle.grid.specs.Limits.{side}
+use Rattle.grid.specs.Answers.{allowanceShort}
+use Rattle.grid.specs.Squares.{Area}
+use Rattle.intervals.specs.Table.{setOf, tableOf, Tabled}
+use Rattle.intervals.proofs.TableLaws.{set-table, tabled}
+use Rattle.cover.specs.Slices.{starting}
+use Rattle.cover.specs.Flashes.{flash, flashes, flashedArea}
+use Rattle.cover.specs.Marks.{marks}
+use Rattle.cover.specs.Records.{flashesWritten, marksWritten}
+use Rattle.cover.specs.Cover.{answered}
+use Rattle.cover.specs.Code.{Written, MarksWritten}
+use Rattle.cover.specs.declared.flashes.Flashed.{Flashed}
+use Rattle.cover.proofs.Starting.{starting-listed}
+use Rattle.cover.proofs.Covering.{flashes-short}
+use Rattle.cover.proofs.MarkLaws.{marks-flashes}
+
+module _ (a : Area) (w h : ℕ) (fits : w ≤ side) where
+  -- the final set in its table
+  module _ {t : List ℕ} (q : t ≡ tableOf (final w (starting a w h))) where
+    pub work-tabled : Tabled w t
+    work-tabled = rw q (tabled w (final w (starting a w h)) fits (final-listed w (starting a w h) (starting-listed a w h)))
+
+    work-set : setOf w t ≡ final w (starting a w h)
+    work-set = ap (setOf w) q ∙ set-table w (final w (starting a w h)) fits (final-listed w (starting a w h) (starting-listed a w h))
+
+    pub work-short : length (setOf w t) ≤ side
+    work-short = omega (arith, ap length work-set, final-short w (starting a w h) (starting-listed a w h))
+
+    work-flashes : map (flash a h) (setOf w t) ≡ flashes a w h
+    unfolding flashes
+    work-flashes = ap (map (flash a h)) work-set
+
+    -- as many flashes as intervals
+    work-size : {n : ℕ} → n ≡ length (setOf w t) → n ≡ length (flashes a w h)
+    work-size e = e ∙ sym (length-map (setOf w t) (flash a h)) ∙ ap length work-flashes
+
+    module _ {k n : ℕ} (size : n ≡ length (setOf w t)) where
+      -- more flashes than the allowance
+      pub work-refused : {f m m′ : List ℕ} {r : ℕ} → k < n → MarksWritten (take (k + 1) (marks a w h)) m r m′
+          → record { outcome = record { answer = allowanceShort; «place_x» = 0; «place_y» = 0; flashes = 0; marks = r; copper = 0 }; flashesAfter = f; marksAfter = m′ }
+          ≡ answered a w h k f m
+      work-refused {f} {m} u A =
+          let c = A .counted ∙ ap (λ j. length (take j (marks a w h))) (add-one k) in
+          let b = A .room ∙ ap (λ j. marksWritten (take j (marks a w h)) m) (add-one k) in
+          rw (lt-ltb k (length (flashes a w h)) (omega (arith, work-size size)))
+          (λ i. record {
+            outcome = record { answer = allowanceShort; «place_x» = 0; «place_y» = 0; flashes = 0; marks = c i; copper = 0 };
+            flashesAfter = f;
+            marksAfter = b i;
+          })
+
+      -- flashes within the allowance
+      pub work-done : {f f′ m m′ : List ℕ} {r : ℕ} {d : Flashed} → n ≤ k → Written (map (flash a h) (setOf w t)) f d f′ → MarksWritten (take side (marks a w h)) m r m′
+          → record { outcome = record { answer = 0; «place_x» = 0; «place_y» = 0; flashes = d .count; marks = r; copper = d .area }; flashesAfter = f′; marksAfter = m′ }
+          ≡ answered a w h k f m
+      work-done {f} {m = m} u A B =
+          let all = take-all side (marks a w h) (omega (arith, marks-flashes a w h, flashes-short a w h)) in
+          let c = A .count ∙ ap length work-flashes in
+          let o = A .area ∙ ap flashedArea work-flashes in
+          let x = A .room ∙ ap (λ qs. flashesWritten qs f) work-flashes in
+          let l = B .counted ∙ ap length all in
+          let y = B .room ∙ ap (λ ss. marksWritten ss m) all in
+          rw (le-ltb k (length (flashes a w h)) (omega (arith, work-size size)))
+          (λ i. record {
+            outcome = record { answer = 0; «place_x» = 0; «place_y» = 0; flashes = c i; marks = l i; copper = o i };
+            flashesAfter = x i;
+            marksAfter = y i;
+          })

@@ -1,0 +1,59 @@
+-- `keekaboor_cover` meets its contract: the checks in document 01's order, then the work.
+use borrow.Author.Needs.{needs}
+use lib.ListN.{length}
+use Rattle.grid.specs.Raster.{Sized}
+use Rattle.cover.proofs.Refusals.{Passed, first-passed, gives-first, gives-second, gives-worked}
+use Rattle.cover.proofs.entry.keekaboor_cover.Statement.{statement}
+use Rattle.cover.proofs.entry.keekaboor_cover.Tie as tie
+
+-- the first checks are passed
+passed : (c : tie.Else1) → let g = c .before .before .before .before .before .before .args in
+    Passed (g .width) (g .height) (g .allowance) (length (g .raster .now)) (length (g .flash-room .now)) (length (g .mark-room .now))
+passed c =
+    let g = c .before .before .before .before .before .before .args in
+    first-passed _ _ _ (g .raster .now) (g .flash-room .now) (g .mark-room .now) (c .before .before .sizes-checked .ensures) (c .if1 .left)
+
+sized : (c : tie.Else1) → let g = c .before .before .before .before .before .before .args in
+    Sized (record { width = g .width; height = g .height; allowance = g .allowance }) (g .raster .now)
+sized c = let p = passed c in record { wide = p .wide .0; narrow = p .wide .1; tall = p .tall .0; low = p .tall .1; full = p .full }
+
+returns : tie.Need-returns
+returns c =
+    let t = c .before in
+    gives-first _ _ _ _ _ _ (t .before .before .sizes-checked .ensures) (t .if1 .taken) (c .refused .ensures)
+
+returns-2 : tie.Need-returns-2
+returns-2 c =
+    let t = c .before in
+    let r = t .before .before in
+    let e = r .before in
+    gives-second _ _ _ _ _ _ (e .before .before .sizes-checked .ensures) (e .if1 .left) (r .raster-checked .ensures) (t .if2 .taken) (c .refused2 .ensures)
+
+cover-area-requires : tie.Need-cover-area-requires
+cover-area-requires c κs =
+    let e = c .before .before .before .before .before in
+    let p = passed e in
+    (sized e, (p .allowance, p .flash-room, p .mark-room))
+
+returns-3 : tie.Need-returns-3
+returns-3 c =
+    let w = c .before .before .before .before in
+    let t = w .before .before .before in
+    let r = t .before .before in
+    let e = r .before in
+    gives-worked _ _ _ _ _ _ (e .before .before .sizes-checked .ensures) (e .if1 .left) (r .raster-checked .ensures) (t .if2 .left) (w .cover-area .ensures)
+
+pub keekaboor-cover-spec : {M : Type 1} → statement M
+keekaboor-cover-spec =
+    tie.close
+    (tie.spec
+    (λ c κs. search needs)
+    (λ c κs. search needs)
+    returns
+    (λ c κs. sized c)
+    (λ c κs. search needs)
+    returns-2
+    cover-area-requires
+    (λ c. search needs)
+    (λ c. search needs)
+    returns-3)

@@ -1,0 +1,55 @@
+-- `find` meets its contract. The loop's invariant: the highest row that shows the interval is the highest below `left`.
+use mathlib.Core.Path.{_≡_, sym, ap, _∙_}
+use mathlib.Core.Bool.{Bool}
+use mathlib.Core.List.{List}
+use Prim.Native.Nat.{ℕ}
+use native.Mathlib.Omega.{arith}
+use borrow.Author.Needs.{needs}
+use Rattle.grid.specs.Lines.{spanOf}
+use Rattle.grid.specs.declared.lines.Interval.{Interval}
+use Rattle.grid.specs.declared.raster.Job.{Job}
+use Rattle.cover.specs.Slices.{slice, markRow}
+use Rattle.cover.specs.Code.{areaIn, seenOf}
+use Rattle.cover.proofs.Searched.{downFrom, down-all, down-found, down-next, down-none}
+use Rattle.cover.proofs.slices.find.Statement.{statement}
+use Rattle.cover.proofs.slices.find.Tie as tie
+
+abbrev shown : Job → List ℕ → Interval → ℕ → Bool
+shown job raster i y = slice (areaIn job raster) y (spanOf i)
+
+abbrev Inv-loop : tie.InvT-loop
+Inv-loop job raster i left₀ left = markRow (areaIn job raster) (job .height) (spanOf i) ≡ downFrom (shown job raster i) left
+
+abbrev μ-loop : tie.MeasureT-loop
+μ-loop job raster i left₀ left = left
+
+loop-holds : tie.Need-loop-holds Inv-loop μ-loop
+unfolding markRow
+loop-holds c = down-all _ _
+
+returns : tie.Need-returns Inv-loop μ-loop
+returns c =
+    let l = c .before .before .before in
+    sym (ap seenOf (l .loop .inv ∙ down-found _ _ (omega arith) (sym (c .before .is-slice .ensures) ∙ c .if1 .taken)))
+
+loop-again : tie.Need-loop-again Inv-loop μ-loop
+loop-again c =
+    let l = c .before .before .before in
+    l .loop .inv ∙ down-next _ _ (omega arith) (sym (c .before .is-slice .ensures) ∙ c .if1 .left)
+
+returns-2 : tie.Need-returns-2 Inv-loop μ-loop
+returns-2 c = sym (ap seenOf (c .before .loop .inv ∙ down-none _ _ (omega arith)))
+
+pub find-spec : {M : Type 1} → statement M
+find-spec =
+    tie.close
+    (tie.spec
+    Inv-loop
+    μ-loop
+    loop-holds
+    (λ c. omega arith)
+    (λ c κs. search needs)
+    returns
+    (λ c. omega arith)
+    loop-again
+    returns-2)

@@ -1,0 +1,147 @@
+-- What only the contracts of inner functions name: the code's values read as the rules' ones, and what a step leaves behind.
+-- The promises of `keekaboor_cover` stand in Cover.antt and name none of it.
+use mathlib.Core.Path.{_≡_}
+use mathlib.Core.Bool.{Bool, true, false, not, cond, _&&_}
+use mathlib.Core.List.{List, [], _∷_}
+use mathlib.Core.Option.{Option, none, some}
+use Prim.Native.Nat.{ℕ, _+_, _-_, _*_, _≤_, _<_}
+use lib.Dec.{eqb, ltb}
+use lib.ListN.{length, getD, set}
+use lib.Seq.{sets}
+use Rattle.lists.specs.Lists.{any, gather, upTo}
+use Rattle.method.specs.Intervals.{Interval, select}
+use Rattle.method.specs.Strike.{Marked, marked}
+use Rattle.grid.specs.Limits.{side, flashRecord, markRecord, flashRoom, markRoom, allowanceLimit}
+use Rattle.grid.specs.Answers.{answer, done, refused, sizeOut, rasterLength, flashRoomShort, markRoomShort, allowanceOut, badByte, brokenColumn}
+use Rattle.grid.specs.Squares.{Area, Rectangle, Square}
+use Rattle.grid.specs.Lines.{column, row}
+use Rattle.grid.specs.Raster.{areaOf, sizeFits, lengthFits, badPlace, brokenPlace}
+use Rattle.grid.specs.declared.lines.Mark.{Mark}
+use Rattle.grid.specs.declared.answers.Answer.{Answer}
+use Rattle.grid.specs.declared.raster.Job.{Job}
+use Rattle.grid.specs.declared.raster.Place.{Place}
+use Rattle.grid.specs.declared.raster.Place.the-variants.{Nowhere, At}
+use Rattle.intervals.specs.Table.{cellOf, spanAt, setOf, tableOf, Tabled}
+use Rattle.cover.specs.Slices.{slice}
+use Rattle.cover.specs.Flashes.{flash, flashedArea}
+use Rattle.cover.specs.Marks.{mark}
+use Rattle.cover.specs.Records.{flashBytes, markBytes, flashesWritten, marksWritten}
+use Rattle.cover.specs.declared.entry.Outcome.{Outcome}
+use Rattle.cover.specs.declared.slices.Seen.{Seen}
+use Rattle.cover.specs.declared.slices.Seen.the-variants.{Never, In}
+use Rattle.cover.specs.declared.marks.Once.{Once}
+use Rattle.cover.specs.declared.marks.Once.the-variants.{Nowhere as NotOnce, In as Only}
+use Rattle.cover.specs.declared.flashes.Flash.{Flash}
+use Rattle.cover.specs.declared.flashes.Flashed.{Flashed}
+
+-- the area of a job's raster
+abbrev pub areaIn : Job → List ℕ → Area
+areaIn job bytes = areaOf (job .width) (job .height) bytes
+
+-- a row that shows an interval, if one does
+abbrev pub seenOf : Option ℕ → Seen
+seenOf none = Never
+seenOf (some y) = In (record { highest = row y })
+
+-- a column that was found, if one was
+abbrev pub onceOf : Option ℕ → Once
+onceOf none = NotOnce
+onceOf (some c) = Only (column c)
+
+-- of the starting set, the intervals whose cell comes before cell k
+unfoldable pub startedTo : Area → ℕ → ℕ → ℕ → List Interval
+startedTo a w h k = select w (λ i. ltb (cellOf i) k && any (λ y. slice a y i) (upTo h))
+
+-- a flash as a rectangle, a mark as a square
+abbrev pub rectangleOf : Flash → Rectangle
+rectangleOf q = record { first = q .first .0; last = q .last .0; bottom = q .bottom .0; top = q .top .0 }
+
+abbrev pub squareOf : Mark → Square
+squareOf m = record { column = m .column .0; row = m .row .0 }
+
+-- a flash whose sides are not reversed, within the largest grid
+pub record Drawn (q : Rectangle) : Type 0 where
+  pub wide : q .first ≤ q .last
+  pub narrow : q .last < side
+  pub tall : q .bottom ≤ q .top
+  pub low : q .top < side
+
+-- the flash of cell k, where the table t holds its interval
+abbrev pub flashesAt : Area → ℕ → List ℕ → ℕ → List Rectangle
+flashesAt a h t k = cond (eqb (getD t k 0) 1) (flash a h (spanAt k) ∷ []) []
+
+-- room and numbers for the flashes qs besides those done
+pub record Ready (qs : List Rectangle) (done : Flashed) (f : List ℕ) : Type 0 where
+  pub short : done .count + length qs ≤ side
+  pub small : done .area ≤ done .count * (side * side)
+  pub lent : flashRoom ≤ length f
+
+-- the flashes qs put behind those done: their number and area added, and the room's bytes
+pub record Added (qs : List Rectangle) (f : List ℕ) (done r : Flashed) (f′ : List ℕ) : Type 0 where
+  pub count : r .count ≡ done .count + length qs
+  pub area : r .area ≡ done .area + flashedArea qs
+  pub room : f′ ≡ sets f (done .count * flashRecord) (gather flashBytes qs)
+
+-- flashes written: their number, the sum of their areas, and what the room that held f holds after it
+pub record Written (qs : List Rectangle) (f : List ℕ) (done : Flashed) (f′ : List ℕ) : Type 0 where
+  pub count : done .count ≡ length qs
+  pub area : done .area ≡ flashedArea qs
+  pub room : f′ ≡ flashesWritten qs f
+
+-- the marks as the code notes them on its way: for each column one more than the row of its mark
+unfoldable pub noted : Area → ℕ → List Marked → List ℕ → List ℕ
+noted a h [] rows = rows
+noted a h (m ∷ ms) rows = noted a h ms (set rows (m .column) (mark a h m .row + 1))
+
+-- a turn of the marks' rule on the set in a table: nothing was left of it, or a mark was noted and less is left
+pub record Turned (a : Area) (w h : ℕ) (t rows : List ℕ) (more : Bool) (t′ work′ rows′ : List ℕ) : Type 0 where
+  pub over : more ≡ false → (setOf w t ≡ []) × (t′ ≡ tableOf []) × (work′ ≡ tableOf []) × (rows′ ≡ rows)
+  pub on : more ≡ true
+      → Tabled w t′ × (length (setOf w t′) < length (setOf w t)) × (noted a h (marked w (setOf w t)) rows ≡ noted a h (marked w (setOf w t′)) rows′)
+  pub as-long : length rows′ ≡ length rows
+
+-- the marks of the set s noted: its table and the one for final sets are empty afterwards
+pub record Noted (a : Area) (w h : ℕ) (s : List Interval) (rows t′ work′ rows′ : List ℕ) : Type 0 where
+  pub struck : t′ ≡ tableOf []
+  pub done : work′ ≡ tableOf []
+  pub by-column : rows′ ≡ noted a h (marked w s) rows
+
+-- the mark that is noted for a column, if one is: rows has one more than its row, and 0 where there is none
+abbrev pub notedIn : List ℕ → ℕ → List Square
+notedIn rows c = cond (eqb (getD rows c 0) 0) [] (record { column = c; row = getD rows c 0 - 1 } ∷ [])
+
+unfoldable pub marksNoted : ℕ → List ℕ → List Square
+marksNoted w rows = gather (notedIn rows) (upTo w)
+
+-- the marks ss put behind the n marks written: their number, and the room's bytes
+pub record MarksAdded (ss : List Square) (m : List ℕ) (n r : ℕ) (m′ : List ℕ) : Type 0 where
+  pub count : r ≡ n + length ss
+  pub room : m′ ≡ sets m (n * markRecord) (gather markBytes ss)
+
+-- marks written: their number, and what the room that held m holds after it
+pub record MarksWritten (ss : List Square) (m : List ℕ) (count : ℕ) (m′ : List ℕ) : Type 0 where
+  pub counted : count ≡ length ss
+  pub room : m′ ≡ marksWritten ss m
+
+-- an answer that refuses, as an outcome
+abbrev pub outcomeOf : Answer → Outcome
+outcomeOf r = record { answer = r .number; «place_x» = r .x; «place_y» = r .y; flashes = 0; marks = 0; copper = 0 }
+
+-- a refusal without place where the test holds, and one with the place where there is one; else the answer of the later checks
+unfoldable pub unless : Bool → ℕ → Answer → Answer
+unless b n later = cond b (refused n) later
+
+unfoldable pub unlessAt : Place → ℕ → Answer → Answer
+unlessAt Nowhere n later = later
+unlessAt (At c r) n later = answer n (c .0) (r .0)
+
+-- the checks that need no look at the raster's bytes: width w, height h, allowance k, and the lengths of raster, flash room and mark room
+abbrev pub sizesAnswer : ℕ → ℕ → ℕ → ℕ → ℕ → ℕ → Answer
+sizesAnswer w h k n f m =
+    unless (not (sizeFits w h)) sizeOut
+    (unless (not (lengthFits w h n)) rasterLength
+    (unless (ltb f flashRoom) flashRoomShort (unless (ltb m markRoom) markRoomShort (unless (ltb allowanceLimit k) allowanceOut done))))
+
+-- the checks of the raster's bytes
+abbrev pub rasterAnswer : ℕ → ℕ → List ℕ → Answer
+rasterAnswer w h bytes = unlessAt (badPlace w bytes) badByte (unlessAt (brokenPlace (areaOf w h bytes) w h) brokenColumn done)

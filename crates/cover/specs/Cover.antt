@@ -1,0 +1,80 @@
+-- The whole outcome of the cover: numbers, places, and each byte of both rooms ('Answers by number').
+-- Throughout, f and m are what the lent flash room and mark room hold before the call.
+use mathlib.Core.Path.{_≡_}
+use mathlib.Core.Bool.{Bool, not, cond}
+use mathlib.Core.List.{List}
+use Prim.Native.Nat.{ℕ, suc}
+use lib.Dec.{ltb}
+use lib.ListN.{length, take}
+use Rattle.grid.specs.Limits.{allowanceLimit, flashRoom, markRoom}
+use Rattle.grid.specs.Answers.{sizeOut, rasterLength, flashRoomShort, markRoomShort, allowanceOut, badByte, brokenColumn, allowanceShort}
+use Rattle.grid.specs.Squares.{Area, Rectangle, Square}
+use Rattle.grid.specs.Raster.{sizeFits, lengthFits, areaOf, badPlace, brokenPlace}
+use Rattle.grid.specs.declared.raster.Place.{Place}
+use Rattle.grid.specs.declared.raster.Place.the-variants.{Nowhere, At}
+use Rattle.cover.specs.Flashes.{flashes, copperNumber}
+use Rattle.cover.specs.Marks.{marks}
+use Rattle.cover.specs.Records.{flashesWritten, marksWritten}
+use Rattle.cover.specs.declared.entry.Outcome.{Outcome}
+
+-- what a call gives: its outcome, and what the two rooms hold after it
+pub record Given : Type 0 where
+  pub outcome : Outcome
+  pub flashesAfter : List ℕ
+  pub marksAfter : List ℕ
+
+-- "On a refusal every count [and] the copper number .. are returned as 0, and nothing is written"
+abbrev pub refusedAt : ℕ → ℕ → ℕ → List ℕ → List ℕ → Given
+refusedAt n x y f m = record {
+  outcome = record { answer = n; «place_x» = x; «place_y» = y; flashes = 0; marks = 0; copper = 0 };
+  flashesAfter = f;
+  marksAfter = m;
+}
+
+-- "answer 9 alone reports k + 1 marks and writes them, the flash room staying untouched"
+abbrev pub short : List Square → List ℕ → List ℕ → Given
+short ss f m = record {
+  outcome = record { answer = allowanceShort; «place_x» = 0; «place_y» = 0; flashes = 0; marks = length ss; copper = 0 };
+  flashesAfter = f;
+  marksAfter = marksWritten ss m;
+}
+
+-- "A success also gives the copper number"
+abbrev pub covered : List Rectangle → List Square → List ℕ → List ℕ → Given
+covered qs ss f m = record {
+  outcome = record { answer = 0; «place_x» = 0; «place_y» = 0; flashes = length qs; marks = length ss; copper = copperNumber qs };
+  flashesAfter = flashesWritten qs f;
+  marksAfter = marksWritten ss m;
+}
+
+-- a refusal without place where the test holds, else what comes after it in document 01's order
+abbrev pub refuseIf : Bool → ℕ → List ℕ → List ℕ → Given → Given
+refuseIf b n f m later = cond b (refusedAt n 0 0 f m) later
+
+-- a refusal with the place, where there is one
+abbrev pub refuseFrom : Place → ℕ → List ℕ → List ℕ → Given → Given
+refuseFrom Nowhere n f m later = later
+refuseFrom (At c r) n f m later = refusedAt n (c .0) (r .0) f m
+
+-- "least number exceeds the allowance": 9 with "the first k + 1 marks of that list and no flash"; else the cover
+abbrev pub answered : Area → ℕ → ℕ → ℕ → List ℕ → List ℕ → Given
+answered a w h k f m =
+    cond (ltb k (length (flashes a w h)))
+    (short (take (suc k) (marks a w h)) f m)
+    (covered (flashes a w h) (marks a w h) f m)
+
+-- width w, height h, allowance k; "Cover: 1, 2, 3, 4, 6, 7, 8, 9."
+unfoldable pub coverGives : ℕ → ℕ → ℕ → List ℕ → List ℕ → List ℕ → Given
+coverGives w h k raster f m =
+    refuseIf (not (sizeFits w h)) sizeOut f m
+    (refuseIf (not (lengthFits w h (length raster))) rasterLength f m
+    (refuseIf (ltb (length f) flashRoom) flashRoomShort f m
+    (refuseIf (ltb (length m) markRoom) markRoomShort f m
+    (refuseIf (ltb allowanceLimit k) allowanceOut f m
+    (refuseFrom (badPlace w raster) badByte f m
+    (refuseFrom (brokenPlace (areaOf w h raster) w h) brokenColumn f m
+    (answered (areaOf w h raster) w h k f m)))))))
+
+-- the contract of `keekaboor_cover`: outcome r, and rooms that hold f′ and m′ afterwards, are what the call gives
+abbrev pub Gives : ℕ → ℕ → ℕ → List ℕ → List ℕ → List ℕ → Outcome → List ℕ → List ℕ → Type 0
+Gives w h k raster f m r f′ m′ = record { outcome = r; flashesAfter = f′; marksAfter = m′ } ≡ coverGives w h k raster f m

@@ -1,0 +1,18 @@
+-- Demand 2 of a call that succeeds: "Flash list and marks are those that document 01's rules give .. On success no flash touches a square
+-- outside the copper, and each copper square lies in a flash." Each count and the copper number are those of the records in the rooms.
+use mathlib.Core.Path.{_≡_}
+use Prim.Native.Nat.{ℕ}
+use lib.ListN.{length}
+use Rattle.grid.specs.Squares.{Area, Cover}
+use Rattle.cover.specs.Flashes.{flashes, copperNumber}
+use Rattle.cover.specs.Marks.{marks}
+use Rattle.cover.specs.Records.{flashesIn, marksIn}
+use Rattle.cover.specs.Cover.{Given}
+
+pub record Sound (a : Area) (w h : ℕ) (g : Given) : Type 0 where
+  pub flashes-ruled : flashesIn (g .outcome .flashes) (g .flashesAfter) ≡ flashes a w h
+  pub marks-ruled : marksIn (g .outcome .marks) (g .marksAfter) ≡ marks a w h
+  pub flash-count : g .outcome .flashes ≡ length (flashes a w h)
+  pub mark-count : g .outcome .marks ≡ length (marks a w h)
+  pub copper-number : g .outcome .copper ≡ copperNumber (flashesIn (g .outcome .flashes) (g .flashesAfter))
+  pub cover : Cover a (flashesIn (g .outcome .flashes) (g .flashesAfter))

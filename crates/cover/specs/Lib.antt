@@ -1,0 +1,10 @@
+pub mod Slices
+pub mod Flashes
+pub mod Marks
+pub mod Records
+pub mod Cover
+pub mod Demand1
+pub mod Demand2
+pub mod Demand3
+pub mod Rows
+pub mod Code

@@ -1,0 +1,145 @@
+// Marks: found by the rule, noted by column, written in the columns' order.
+ghost use mathlib.Core.Path.{_≡_};
+ghost use Prim.Native.Nat.{_-_, _*_, _^_, _<_, _≤_};
+ghost use lib.ListN.{length, take};
+ghost use lib.Seq.{sets};
+ghost use Rattle.method.specs.Final.{final};
+ghost use Rattle.method.specs.Strike.{heldOnce};
+ghost use Rattle.grid.specs.Limits.{side, markRecord, markRoom};
+ghost use Rattle.grid.specs.Lines.{row, spanOf};
+ghost use Rattle.grid.specs.Raster.{Sized};
+ghost use Rattle.intervals.specs.Table.{Tabled, setOf, tableOf};
+ghost use Rattle.cover.specs.Slices.{markRow};
+ghost use Rattle.cover.specs.Flashes.{rowFound};
+ghost use Rattle.cover.specs.Code.{areaIn, squareOf, onceOf, notedIn, marksNoted, Turned, Noted, MarksAdded, MarksWritten};
+ghost use Rattle.cover.specs.Records.{markBytes};
+use crate::slices::Seen;
+use crate::slices::find;
+use crate::slices::last_line;
+use grid::limits::MARK_RECORD;
+use grid::lines::Column;
+use grid::lines::Interval;
+use grid::lines::Line;
+use grid::lines::Mark;
+use grid::lines::Row;
+use grid::raster::Job;
+use intervals::Found;
+use intervals::Table;
+use intervals::final_set::final_set;
+use intervals::strike::held;
+use intervals::strike::least;
+use intervals::strike::strike;
+use intervals::table::copy;
+
+pub enum Once {
+    Nowhere,
+    In(Column),
+}
+
+// The leftmost column that lies in exactly one interval.
+fn held_once(t: &Table, last: Line) -> Once
+    requires { ⌜ Tabled (last .0) (now t) ⌝ }
+    ensures { λ r. ⌜ r ≡ onceOf (heldOnce (last .0) (setOf (last .0) (now (t .entry)))) ⌝ }
+{
+    for c in 0..last.0 {
+        if held(t, last, Column(c)) == 1 {
+            return Once::In(Column(c));
+        }
+    }
+    Once::Nowhere
+}
+
+// The same of the set's final set, which `work` holds afterwards.
+fn next_column(set: &Table, work: &mut Table, last: Line) -> Once
+    requires { ⌜ Tabled (last .0) (now set) ⌝ }
+    ensures { λ r. ⌜ (r ≡ onceOf (heldOnce (last .0) (final (last .0) (setOf (last .0) (now (set .entry)))))) × (now (work .exit) ≡ tableOf (final (last .0) (setOf (last .0) (now (set .entry))))) ⌝ }
+{
+    copy(set, work);
+    final_set(work, last);
+    held_once(work, last)
+}
+
+fn mark_row(job: Job, raster: &[u8], i: Interval) -> Row
+    requires { ⌜ Sized job (now raster) ⌝ }
+    ensures { λ r. ⌜ r ≡ row (rowFound (markRow (areaIn job (now (raster .entry))) (job .height) (spanOf i))) ⌝ }
+{
+    match find(job, raster, i) {
+        Seen::In(shown) => shown.highest,
+        Seen::Never => Row(0),
+    }
+}
+
+// One mark is noted and its column struck from the set; or nothing is left, and this is told.
+fn note_mark(job: Job, raster: &[u8], set: &mut Table, work: &mut Table, rows: &mut [u8]) -> bool
+    requires { ⌜ Sized job (now raster) ⌝ }
+    requires { ⌜ Tabled (job .width) (now set) × (job .width ≤ length (now rows)) ⌝ }
+    ensures { λ r. ⌜ Turned (areaIn job (now (raster .entry))) (job .width) (job .height) (now (set .entry)) (now (rows .entry)) r (now (set .exit)) (now (work .exit)) (now (rows .exit)) ⌝ }
+{
+    let last = last_line(job);
+    let Once::In(column) = next_column(set, work, last) else {
+        return false;
+    };
+    let Found::At(i) = least(set, last, column) else {
+        return false;
+    };
+    let row = mark_row(job, raster, i);
+    let c = column.0;
+    rows[c] = row.0 as u8 + 1;
+    strike(set, last, column);
+    true
+}
+
+// The marks of the set, by column: one more than the row of the column's mark. Both tables are empty afterwards.
+pub fn note_marks(job: Job, raster: &[u8], set: &mut Table, work: &mut Table, rows: &mut [u8])
+    requires { ⌜ Sized job (now raster) ⌝ }
+    requires { ⌜ Tabled (job .width) (now set) × (job .width ≤ length (now rows)) ⌝ }
+    ensures { λ _. ⌜ Noted (areaIn job (now (raster .entry))) (job .width) (job .height) (setOf (job .width) (now (set .entry))) (now (rows .entry)) (now (set .exit)) (now (work .exit)) (now (rows .exit)) ⌝ }
+{
+    while note_mark(job, raster, set, work, rows) {}
+}
+
+// The n-th record of the room.
+fn put_mark(room: &mut [u8], n: usize, mark: Mark)
+    requires { ⌜ (mark .column .0 < 2 ^ 8) × (mark .row .0 < 2 ^ 8) × (n < side) × (markRoom ≤ length (now room)) ⌝ }
+    ensures { λ _. ⌜ now (room .exit) ≡ sets (now (room .entry)) (n * markRecord) (markBytes (squareOf mark)) ⌝ }
+{
+    let at = n * MARK_RECORD;
+    room[at] = mark.column.0 as u8;
+    room[at + 1] = mark.row.0 as u8;
+}
+
+// The mark that is noted for a column, behind the n written, if there are to be more.
+fn write_mark(rows: &[u8], column: Column, most: usize, room: &mut [u8], n: usize) -> usize
+    requires { ⌜ (column .0 < length (now rows)) × (column .0 < side) × (n < side) × (markRoom ≤ length (now room)) ⌝ }
+    ensures { λ r. ⌜ MarksAdded (take (most - n) (notedIn (now (rows .entry)) (column .0))) (now (room .entry)) n r (now (room .exit)) ⌝ }
+{
+    if most <= n {
+        return n;
+    }
+    let c = column.0;
+    let y = rows[c] as usize;
+    if y == 0 {
+        return n;
+    }
+    put_mark(
+        room,
+        n,
+        Mark {
+            column,
+            row: Row(y - 1),
+        },
+    );
+    n + 1
+}
+
+// The first marks by column, at most `most` of them.
+pub fn write_marks(rows: &[u8], last: Line, most: usize, room: &mut [u8]) -> usize
+    requires { ⌜ (last .0 ≤ length (now rows)) × (last .0 ≤ side) × (markRoom ≤ length (now room)) ⌝ }
+    ensures { λ r. ⌜ MarksWritten (take most (marksNoted (last .0) (now (rows .entry)))) (now (room .entry)) r (now (room .exit)) ⌝ }
+{
+    let mut n = 0;
+    for c in 0..last.0 {
+        n = write_mark(rows, Column(c), most, room, n);
+    }
+    n
+}

@@ -1,0 +1,13 @@
+pub mod Plus
+pub mod Steps
+pub mod Shape
+pub mod Row
+pub mod Rows
+pub mod Judging
+pub mod Lengths
+pub mod Text
+pub mod Checking
+pub mod Accepted
+pub mod Outcomes
+pub mod RoundTrip
+pub mod Determined

@@ -1,0 +1,88 @@
+// The lines of a job's text: `shape` with its numbers, and one line for each row.
+ghost use mathlib.Core.Path.{_≡_};
+ghost use Prim.Native.Nat.{_<_};
+ghost use lib.ListN.{length};
+ghost use Rattle.grid.specs.Limits.{side};
+ghost use Rattle.job.specs.JobText.{rowHead};
+ghost use Rattle.job.specs.Reading.{shapeAt, rowAt};
+use grid::lines::Row;
+use text::glyphs::FEED;
+use text::glyphs::TAB;
+use text::read::Next;
+use text::read::Number;
+use text::read::read_body;
+use text::read::read_byte;
+use text::read::read_field;
+use text::read::read_word;
+use text::write::digit_count;
+
+// A number in line 1 is at most this.
+const NUMBER_LIMIT: u64 = 9999;
+
+// What line 1 says, and the spot past it.
+pub enum Shape {
+    Line {
+        width: u64,
+        height: u64,
+        allowance: u64,
+        next: usize,
+    },
+    Nothing,
+}
+
+pub fn read_shape(text: &[u8], spot: usize) -> Shape
+    ensures { λ r. ⌜ r ≡ shapeAt (now (text .entry)) spot ⌝ }
+{
+    let Next::Spot(first) = read_word(text, spot, b"shape") else {
+        return Shape::Nothing;
+    };
+    let Number::Value(width, second) = read_field(text, first, NUMBER_LIMIT) else {
+        return Shape::Nothing;
+    };
+    let Number::Value(height, third) = read_field(text, second, NUMBER_LIMIT) else {
+        return Shape::Nothing;
+    };
+    let Number::Value(allowance, end) = read_field(text, third, NUMBER_LIMIT) else {
+        return Shape::Nothing;
+    };
+    let Next::Spot(next) = read_byte(text, end, FEED) else {
+        return Shape::Nothing;
+    };
+    Shape::Line {
+        width,
+        height,
+        allowance,
+        next,
+    }
+}
+
+// The line of a row. Its number is at most the one that is asked for, or the line is not as ruled.
+pub fn read_row(text: &[u8], spot: usize, width: usize, row: Row) -> Next
+    ensures { λ r. ⌜ r ≡ rowAt (now (text .entry)) spot width (row .0) ⌝ }
+{
+    let wanted = row.0 as u64;
+    let Next::Spot(first) = read_word(text, spot, b"row") else {
+        return Next::Nothing;
+    };
+    let Number::Value(number, second) = read_field(text, first, wanted) else {
+        return Next::Nothing;
+    };
+    if number != wanted {
+        return Next::Nothing;
+    }
+    let Next::Spot(body) = read_byte(text, second, TAB) else {
+        return Next::Nothing;
+    };
+    let Next::Spot(end) = read_body(text, body, width) else {
+        return Next::Nothing;
+    };
+    read_byte(text, end, FEED)
+}
+
+// How many bytes stand before a row's squares: the word, two tabs and the row's number.
+pub fn row_head(row: Row) -> usize
+    requires { ⌜ row .0 < side ⌝ }
+    ensures { λ r. ⌜ r ≡ length (rowHead (row .0)) ⌝ }
+{
+    b"row".len() + 2 + digit_count(row.0 as u64)
+}

@@ -1,0 +1,162 @@
+// Reading a job: everything is judged before a byte is written.
+ghost use mathlib.Core.Path.{_≡_};
+ghost use Prim.Native.Nat.{_≤_};
+ghost use Rattle.grid.specs.Limits.{side};
+ghost use Rattle.text.specs.Words.{written};
+ghost use Rattle.job.specs.Reading.{rowsFrom, rasterFrom, judgedFrom, judged, readOutcome, Copies, ReadJob};
+use crate::lines::Shape;
+use crate::lines::read_row;
+use crate::lines::read_shape;
+use crate::lines::row_head;
+use grid::answers::ALLOWANCE_OUT;
+use grid::answers::Answer;
+use grid::answers::BAD_LINE;
+use grid::answers::DONE;
+use grid::answers::RASTER_ROOM_SHORT;
+use grid::answers::SIZE_OUT;
+use grid::answers::TEXT_LONG;
+use grid::limits::ALLOWANCE_LIMIT;
+use grid::limits::RASTER_ROOM;
+use grid::limits::TEXT_ROOM;
+use grid::lines::Row;
+use grid::raster::Job;
+use grid::raster::size_fits;
+use text::read::Next;
+use text::write::put_squares;
+
+#[repr(C)]
+pub struct ReadOutcome {
+    pub answer: u64,
+    pub place_x: u64,
+    pub place_y: u64,
+    pub width: u64,
+    pub height: u64,
+    pub allowance: u64,
+}
+
+// What judging a text finds: a refusal, or a job and the spot past line 1.
+pub enum Judged {
+    Refused(Answer),
+    Fine(Job, usize),
+}
+
+// The lines of the rows: all as ruled, or the number of the first that is not.
+pub enum Lines {
+    Ruled,
+    Bad(usize),
+}
+
+fn judge_rows(text: &[u8], spot: usize, job: Job) -> Lines
+    requires { ⌜ job .height ≤ side ⌝ }
+    ensures { λ r. ⌜ r ≡ rowsFrom (now (text .entry)) (job .width) (job .height) 2 spot ⌝ }
+{
+    let width = job.width;
+    let mut line: usize = 2;
+    let mut at = spot;
+    let mut rows = job.height;
+    while 0 < rows {
+        rows -= 1;
+        let Next::Spot(next) = read_row(text, at, width, Row(rows)) else {
+            return Lines::Bad(line);
+        };
+        line += 1;
+        at = next;
+    }
+    if at == text.len() {
+        Lines::Ruled
+    } else {
+        Lines::Bad(line)
+    }
+}
+
+pub fn judge_from(text: &[u8], spot: usize) -> Judged
+    ensures { λ r. ⌜ r ≡ judgedFrom (now (text .entry)) spot ⌝ }
+{
+    let Shape::Line {
+        width,
+        height,
+        allowance,
+        next,
+    } = read_shape(text, spot)
+    else {
+        return Judged::Refused(Answer::at(BAD_LINE, 1, 0));
+    };
+    if !size_fits(width, height) {
+        return Judged::Refused(Answer::refused(SIZE_OUT));
+    }
+    if allowance > ALLOWANCE_LIMIT as u64 {
+        return Judged::Refused(Answer::refused(ALLOWANCE_OUT));
+    }
+    let job = Job {
+        width: width as usize,
+        height: height as usize,
+        allowance: allowance as usize,
+    };
+    match judge_rows(text, next, job) {
+        Lines::Bad(line) => Judged::Refused(Answer::at(BAD_LINE, line as u64, 0)),
+        Lines::Ruled => Judged::Fine(job, next),
+    }
+}
+
+fn judge(text: &[u8], room: usize) -> Judged
+    ensures { λ r. ⌜ r ≡ judged (now (text .entry)) room ⌝ }
+{
+    if room < RASTER_ROOM {
+        return Judged::Refused(Answer::refused(RASTER_ROOM_SHORT));
+    }
+    if TEXT_ROOM < text.len() {
+        return Judged::Refused(Answer::refused(TEXT_LONG));
+    }
+    judge_from(text, 0)
+}
+
+// The squares of the rows' lines as raster bytes, from the top row down.
+fn copy_rows(text: &[u8], spot: usize, job: Job, room: &mut [u8])
+    requires { ⌜ Copies (now text) spot job (now room) ⌝ }
+    ensures { λ _. ⌜ now (room .exit) ≡ written (now (room .entry)) 0 (rasterFrom (now (text .entry)) (job .width) (job .height) spot) ⌝ }
+{
+    let width = job.width;
+    let mut at = spot;
+    let mut left = job.height;
+    while 0 < left {
+        left -= 1;
+        let body = at + row_head(Row(left));
+        put_squares(room, left * width, &text[body..body + width]);
+        at = body + width + 1;
+    }
+}
+
+fn outcome(judged: Judged) -> ReadOutcome
+    ensures { λ r. ⌜ r ≡ readOutcome judged ⌝ }
+{
+    match judged {
+        Judged::Refused(refusal) => ReadOutcome {
+            answer: refusal.number,
+            place_x: refusal.x,
+            place_y: refusal.y,
+            width: 0,
+            height: 0,
+            allowance: 0,
+        },
+        Judged::Fine(job, _) => ReadOutcome {
+            answer: DONE,
+            place_x: 0,
+            place_y: 0,
+            width: job.width as u64,
+            height: job.height as u64,
+            allowance: job.allowance as u64,
+        },
+    }
+}
+
+#[no_mangle]
+pub extern "C" fn keekaboor_read_job(text: &[u8], raster_room: &mut [u8]) -> ReadOutcome
+    ensures { λ r. ⌜ ReadJob (now (text .entry)) (now («raster_room» .entry)) r (now («raster_room» .exit)) ⌝ }
+{
+    let judged = judge(text, raster_room.len());
+    let Judged::Fine(job, spot) = judged else {
+        return outcome(judged);
+    };
+    copy_rows(text, spot, job, raster_room);
+    outcome(judged)
+}

@@ -1,0 +1,6 @@
+pub mod Stands
+pub mod Writing
+pub mod Decimals
+pub mod Inverse
+pub mod Turns
+pub mod Passes

@@ -1,0 +1,68 @@
+-- What stands in a text at a spot, and what a room holds after a writing. A text is a list of bytes; a spot counts the bytes before it.
+use mathlib.Core.Path.{_≡_}
+use mathlib.Core.Bool.{Bool, true, false, cond, _&&_, _||_}
+use mathlib.Core.List.{List, [], _∷_, _++_}
+use Prim.Native.Nat.{ℕ, _+_}
+use lib.Dec.{leb, eqb}
+use lib.ListN.{length, take, drop}
+use Rattle.lists.specs.Lists.{all}
+use Rattle.text.specs.declared.read.Next.{Next}
+use Rattle.text.specs.declared.read.Next.the-variants.{Spot, Nothing}
+
+-- the bytes with a name; "`#` copper and `.` none"
+abbrev pub tab : ℕ
+tab = 9
+
+abbrev pub feed : ℕ
+feed = 10
+
+abbrev pub copper : ℕ
+copper = 35
+
+abbrev pub none : ℕ
+none = 46
+
+-- the text begins with the word
+unfoldable pub begins : List ℕ → List ℕ → Bool
+begins [] text = true
+begins (b ∷ word) [] = false
+begins (b ∷ word) (c ∷ text) = eqb b c && begins word text
+
+-- the word stands in the text at the spot
+abbrev pub stands : List ℕ → ℕ → List ℕ → Bool
+stands text spot word = begins word (drop spot text)
+
+-- the spot past what was found
+abbrev pub found : Bool → ℕ → Next
+found true spot = Spot spot
+found false spot = Nothing
+
+unfoldable pub wordAt : List ℕ → ℕ → List ℕ → Next
+wordAt text spot word = found (stands text spot word) (spot + length word)
+
+-- the one byte where b is the key, and the other where it is not
+abbrev pub chosen : ℕ → ℕ → ℕ → ℕ → ℕ
+chosen key hit miss b = cond (eqb b key) hit miss
+
+-- a raster byte as a character, and a character as a raster byte
+abbrev pub glyph : ℕ → ℕ
+glyph = chosen 1 copper none
+
+abbrev pub square : ℕ → ℕ
+square = chosen copper 1 0
+
+abbrev pub isSquare : ℕ → Bool
+isSquare c = eqb c copper || eqb c none
+
+-- "width characters, `#` copper and `.` none"
+unfoldable pub bodyAt : List ℕ → ℕ → ℕ → Next
+bodyAt text spot width = found (leb width (length (drop spot text)) && all isSquare (take width (drop spot text))) (spot + width)
+
+-- the room with the bytes from the spot on, and every other byte as it was
+unfoldable pub written : List ℕ → ℕ → List ℕ → List ℕ
+written room spot bytes = take spot room ++ (bytes ++ drop (spot + length bytes) room)
+
+-- what a writing answers, and leaves
+pub record Written (room : List ℕ) (spot : ℕ) (bytes : List ℕ) (next : ℕ) (after : List ℕ) : Type 0 where
+  pub past : next ≡ spot + length bytes
+  pub left : after ≡ written room spot bytes

@@ -1,0 +1,138 @@
+/*
+ * Keekaboor: copper areas in the fewest flashes, with evidence, and jobs as text.
+ *
+ * A copper area is a set of unit squares in a grid of `width` columns and `height` rows, each 1 to 64.
+ * Columns count from 0 at the left, rows from 0 at the bottom. A raster is width times height bytes,
+ * row 0 first, each row from column 0; byte 1 is copper, 0 is none. The allowance, 0 to 64, is the
+ * largest number of flashes that the caller wants.
+ *
+ * keekaboor_cover gives the least number of rectangles whose union is the area (overlap is allowed),
+ * and as many marked squares, no two of which fit into one rectangle of copper: so no shorter list
+ * exists. Every column of the area must be unbroken.
+ *
+ *     static const uint8_t plus[] = {0, 1, 0,
+ *                                    1, 1, 1,
+ *                                    0, 1, 0};
+ *     uint8_t flashes[KEEKABOOR_FLASH_ROOM], marks[KEEKABOOR_MARK_ROOM];
+ *     struct keekaboor_outcome o = keekaboor_cover(3, 3, 64, plus, sizeof plus,
+ *                                                  flashes, sizeof flashes, marks, sizeof marks);
+ *     if (o.answer == KEEKABOOR_DONE)
+ *         for (uint64_t i = 0; i < o.flashes; i++) {
+ *             const uint8_t *f = flashes + 4 * i;
+ *             printf("columns %d to %d, rows %d to %d\n", f[0], f[1], f[2], f[3]);
+ *         }
+ *
+ * prints `columns 0 to 2, rows 1 to 1` and `columns 1 to 1, rows 0 to 2`.
+ *
+ * What holds for every function here:
+ *
+ * - It checks its own input: any numbers, lengths and bytes get an answer, and every call returns.
+ *   It keeps nothing between calls, allocates nothing and may be called from several threads at once.
+ * - A pointer is not null and has as many bytes behind it as the length says. What is only read and
+ *   the lent rooms must not overlap each other. Neither is or can be checked.
+ * - A refusal has an answer other than 0, its place where the list below names one (else 0, 0), and 0
+ *   in every other field. It changes no byte of any lent room. KEEKABOOR_ALLOWANCE_SHORT alone also
+ *   reports and writes marks.
+ * - Room may be larger than is asked for. Bytes past what is written stay as they were.
+ * - Numbers have 64 bits, so that no caller's value is cut before it is checked.
+ */
+#ifndef KEEKABOOR_H
+#define KEEKABOOR_H
+
+#include <stddef.h>
+#include <stdint.h>
+
+#ifdef __cplusplus
+extern "C" {
+#endif
+
+/* The limits. */
+enum {
+    KEEKABOOR_LIMIT = 64,          /* the largest width, height and allowance */
+    KEEKABOOR_FLASH_ROOM = 256,    /* bytes lent for flashes, at least: 64 records of four bytes */
+    KEEKABOOR_MARK_ROOM = 128,     /* bytes lent for marks, at least: 64 records of two bytes */
+    KEEKABOOR_RASTER_ROOM = 4096,  /* bytes lent for a raster that is read in, at least */
+    KEEKABOOR_TEXT_ROOM = 4613     /* bytes lent for a job written out, at least; also the longest text of a job */
+};
+
+/* The answers, and the place that goes with each. A place not named is 0, 0. */
+enum {
+    KEEKABOOR_DONE = 0,
+    KEEKABOOR_SIZE = 1,            /* width or height is not 1 to 64 */
+    KEEKABOOR_RASTER_LENGTH = 2,   /* the raster's length is not width times height */
+    KEEKABOOR_FLASH_ROOM_SHORT = 3,
+    KEEKABOOR_MARK_ROOM_SHORT = 4,
+    KEEKABOOR_TEXT_ROOM_SHORT = 5,
+    KEEKABOOR_ALLOWANCE = 6,       /* the allowance is above 64 */
+    KEEKABOOR_RASTER_BYTE = 7,     /* a raster byte is not 0 or 1; place: column and row of the first in raster order */
+    KEEKABOOR_BROKEN_COLUMN = 8,   /* place: the lowest such column; its lowest empty square with copper below and above */
+    KEEKABOOR_ALLOWANCE_SHORT = 9, /* the least number of flashes exceeds the allowance */
+    KEEKABOOR_TEXT_LONG = 10,      /* the text has over 4,613 bytes */
+    KEEKABOOR_TEXT_LINE = 11,      /* a line of text is not as ruled; place: its number, counted from 1, and 0 */
+    KEEKABOOR_RASTER_ROOM_SHORT = 12
+};
+
+/* What keekaboor_cover returns. */
+struct keekaboor_outcome {
+    uint64_t answer;
+    uint64_t place_x, place_y;
+    uint64_t flashes; /* how many flash records were written */
+    uint64_t marks;   /* how many mark records were written */
+    uint64_t copper;  /* the copper number, from which plating sets its current: the sum of the flashes' areas */
+};
+
+/*
+ * Covers an area. On success flash_room begins with `flashes` records of four bytes: first column, last
+ * column, bottom row, top row, all inclusive, in the order of first column, then last column; mark_room
+ * begins with `marks` records of two bytes: column and row, in the order of columns; and `marks` equals
+ * `flashes`. An area without copper has no flashes and no marks.
+ *
+ * Refusals, the first that applies: 1, 2, 3, 4, 6, 7, 8, 9. With 9, and an allowance of k, mark_room
+ * begins with k + 1 marks, no two in one rectangle of copper, `marks` says so, and the other counts are 0.
+ */
+struct keekaboor_outcome keekaboor_cover(uint64_t width, uint64_t height, uint64_t allowance,
+                                         const uint8_t *raster, size_t raster_len,
+                                         uint8_t *flash_room, size_t flash_len,
+                                         uint8_t *mark_room, size_t mark_len);
+
+/*
+ * The text of a job: `shape`, width, height, allowance; then for each row, from the top row down, `row`,
+ * its number and one character for each column, `#` copper and `.` none. Fields are parted by one tab,
+ * each line ends with one line feed, numbers are decimal without sign or leading zero.
+ */
+
+/* What keekaboor_read_job returns. */
+struct keekaboor_read_outcome {
+    uint64_t answer;
+    uint64_t place_x, place_y;
+    uint64_t width, height, allowance;
+};
+
+/*
+ * Reads a job. On success raster_room begins with the raster of width times height bytes.
+ * Refusals, the first that applies: 12, 10, 11 for line 1, 1, 6, 11 for the other lines in their order.
+ * A broken column is no refusal here.
+ */
+struct keekaboor_read_outcome keekaboor_read_job(const uint8_t *text, size_t text_len,
+                                                 uint8_t *raster_room, size_t raster_len);
+
+/* What keekaboor_write_job returns. */
+struct keekaboor_write_outcome {
+    uint64_t answer;
+    uint64_t place_x, place_y;
+    uint64_t length; /* how many bytes of text were written */
+};
+
+/*
+ * Writes a job: on success text_room begins with its text, of `length` bytes and without a closing 0.
+ * Refusals, the first that applies: 1, 2, 5, 6, 7. A broken column can be written.
+ */
+struct keekaboor_write_outcome keekaboor_write_job(uint64_t width, uint64_t height, uint64_t allowance,
+                                                   const uint8_t *raster, size_t raster_len,
+                                                   uint8_t *text_room, size_t text_len);
+
+#ifdef __cplusplus
+}
+#endif
+
+#endif

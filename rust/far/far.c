@@ -1,0 +1,107 @@
+/*
+ * The far side of the boundary, for tests on a machine that is not x86-64: answers calls that
+ * src/ffi.rs sends over standard input, with the exported functions linked in.
+ *
+ * A request is nine numbers (function, times, three arguments, the size of each of three buffers, and
+ * how many guard bytes each has at either end), then the three buffers' bytes. The answer is the
+ * outcome's six numbers, the nanoseconds that the calls took, and the three buffers as they are now.
+ */
+#define _POSIX_C_SOURCE 200809L
+#include "../../include/keekaboor.h"
+
+#include <stdlib.h>
+#include <string.h>
+#include <time.h>
+#include <unistd.h>
+
+enum { COVER = 0, READ_JOB = 1, WRITE_JOB = 2 };
+
+struct request {
+    uint64_t function, times, number[3], size[3], guard;
+};
+
+static int get(void *to, size_t size) {
+    uint8_t *at = to;
+    while (size > 0) {
+        ssize_t n = read(0, at, size);
+        if (n <= 0)
+            return 0;
+        at += n;
+        size -= (size_t)n;
+    }
+    return 1;
+}
+
+static int put(const void *from, size_t size) {
+    const uint8_t *at = from;
+    while (size > 0) {
+        ssize_t n = write(1, at, size);
+        if (n <= 0)
+            return 0;
+        at += n;
+        size -= (size_t)n;
+    }
+    return 1;
+}
+
+static uint64_t now(void) {
+    struct timespec t;
+    clock_gettime(CLOCK_MONOTONIC, &t);
+    return (uint64_t)t.tv_sec * 1000000000u + (uint64_t)t.tv_nsec;
+}
+
+static void call(const struct request *r, uint8_t *const buffer[3], uint64_t outcome[6]) {
+    const uint64_t *n = r->number, *size = r->size;
+    switch (r->function) {
+    case COVER: {
+        struct keekaboor_outcome o =
+            keekaboor_cover(n[0], n[1], n[2], buffer[0], size[0], buffer[1], size[1], buffer[2], size[2]);
+        uint64_t all[6] = {o.answer, o.place_x, o.place_y, o.flashes, o.marks, o.copper};
+        memcpy(outcome, all, sizeof all);
+        break;
+    }
+    case READ_JOB: {
+        struct keekaboor_read_outcome o = keekaboor_read_job(buffer[0], size[0], buffer[1], size[1]);
+        uint64_t all[6] = {o.answer, o.place_x, o.place_y, o.width, o.height, o.allowance};
+        memcpy(outcome, all, sizeof all);
+        break;
+    }
+    case WRITE_JOB: {
+        struct keekaboor_write_outcome o =
+            keekaboor_write_job(n[0], n[1], n[2], buffer[0], size[0], buffer[1], size[1]);
+        uint64_t all[6] = {o.answer, o.place_x, o.place_y, o.length, 0, 0};
+        memcpy(outcome, all, sizeof all);
+        break;
+    }
+    default:
+        exit(2);
+    }
+}
+
+/* The answer's numbers stand before the buffers, so that both go out at once. */
+int main(void) {
+    struct request r;
+    while (get(&r, sizeof r)) {
+        uint64_t reply[7] = {0};
+        size_t total = sizeof reply;
+        for (int i = 0; i < 3; i++)
+            total += r.size[i] + 2 * r.guard;
+        uint8_t *message = malloc(total);
+        if (message == NULL || !get(message + sizeof reply, total - sizeof reply))
+            return 1;
+        uint8_t *buffer[3], *at = message + sizeof reply;
+        for (int i = 0; i < 3; i++) {
+            buffer[i] = at + r.guard;
+            at += r.size[i] + 2 * r.guard;
+        }
+        uint64_t start = now();
+        for (uint64_t i = 0; i < r.times; i++)
+            call(&r, buffer, reply);
+        reply[6] = now() - start;
+        memcpy(message, reply, sizeof reply);
+        if (!put(message, total))
+            return 1;
+        free(message);
+    }
+    return 0;
+}

@@ -1,0 +1,296 @@
+//! The boundary with the proved functions, as `include/keekaboor.h` has it, behind safe wrappers.
+//!
+//! Each wrapper lends copies that stand between guard bytes, and after the call sees that no guard and
+//! nothing that was only to be read has changed: every call of every test has canaries.
+
+/// What `keekaboor_cover` returns.
+#[repr(C)]
+#[derive(Clone, Copy, Debug, Default, PartialEq, Eq)]
+pub struct Outcome {
+    pub answer: u64,
+    pub place_x: u64,
+    pub place_y: u64,
+    pub flashes: u64,
+    pub marks: u64,
+    pub copper: u64,
+}
+
+/// What `keekaboor_read_job` returns.
+#[repr(C)]
+#[derive(Clone, Copy, Debug, Default, PartialEq, Eq)]
+pub struct ReadOutcome {
+    pub answer: u64,
+    pub place_x: u64,
+    pub place_y: u64,
+    pub width: u64,
+    pub height: u64,
+    pub allowance: u64,
+}
+
+/// What `keekaboor_write_job` returns.
+#[repr(C)]
+#[derive(Clone, Copy, Debug, Default, PartialEq, Eq)]
+pub struct WriteOutcome {
+    pub answer: u64,
+    pub place_x: u64,
+    pub place_y: u64,
+    pub length: u64,
+}
+
+#[cfg(feature = "linked")]
+pub use linked::*;
+
+#[cfg(feature = "linked")]
+mod linked {
+    use super::{Outcome, ReadOutcome, WriteOutcome};
+    use std::time::Duration;
+
+    #[cfg(target_arch = "x86_64")]
+    use super::direct::call;
+    #[cfg(not(target_arch = "x86_64"))]
+    use super::far::call;
+
+    /// Whether the proved functions run on this machine's processor, and not under an emulator.
+    pub const NATIVE: bool = cfg!(target_arch = "x86_64");
+
+    pub fn cover(
+        (width, height, allowance): (u64, u64, u64),
+        raster: &[u8],
+        flash_room: &mut [u8],
+        mark_room: &mut [u8],
+    ) -> Outcome {
+        let mut lent = [Lent::new(raster), Lent::new(flash_room), Lent::new(mark_room)];
+        let request = Request { function: Function::Cover, numbers: [width, height, allowance], times: 1 };
+        let reply = call(&request, &mut lent);
+        lent[0].unchanged("the raster", raster);
+        lent[1].copy_back("the flash room", flash_room);
+        lent[2].copy_back("the mark room", mark_room);
+        reply.outcome()
+    }
+
+    pub fn read_job(text: &[u8], raster_room: &mut [u8]) -> ReadOutcome {
+        let mut lent = [Lent::new(text), Lent::new(raster_room), Lent::new(&[])];
+        let request = Request { function: Function::ReadJob, numbers: [0; 3], times: 1 };
+        let reply = call(&request, &mut lent);
+        lent[0].unchanged("the text", text);
+        lent[1].copy_back("the raster room", raster_room);
+        reply.read_outcome()
+    }
+
+    pub fn write_job((width, height, allowance): (u64, u64, u64), raster: &[u8], text_room: &mut [u8]) -> WriteOutcome {
+        let mut lent = [Lent::new(raster), Lent::new(text_room), Lent::new(&[])];
+        let request = Request { function: Function::WriteJob, numbers: [width, height, allowance], times: 1 };
+        let reply = call(&request, &mut lent);
+        lent[0].unchanged("the raster", raster);
+        lent[1].copy_back("the text room", text_room);
+        reply.write_outcome()
+    }
+
+    /// How long so many calls of the cover take, one after the other, in the same rooms.
+    pub fn time_cover(times: u64, numbers: (u64, u64, u64), raster: &[u8]) -> Duration {
+        let mut lent = [Lent::new(raster), Lent::new(&[0; 256]), Lent::new(&[0; 128])];
+        let numbers = [numbers.0, numbers.1, numbers.2];
+        call(&Request { function: Function::Cover, numbers, times }, &mut lent).time
+    }
+
+    /// How long so many calls of the reader take, one after the other, in the same room.
+    pub fn time_read_job(times: u64, text: &[u8]) -> Duration {
+        let mut lent = [Lent::new(text), Lent::new(&[0; 4096]), Lent::new(&[])];
+        call(&Request { function: Function::ReadJob, numbers: [0; 3], times }, &mut lent).time
+    }
+
+    #[derive(Clone, Copy)]
+    pub(super) enum Function {
+        Cover = 0,
+        ReadJob = 1,
+        WriteJob = 2,
+    }
+
+    pub(super) struct Request {
+        pub function: Function,
+        pub numbers: [u64; 3],
+        pub times: u64,
+    }
+
+    /// An outcome's numbers in the order of its fields, and how long the calls took.
+    pub(super) struct Reply {
+        pub numbers: [u64; 6],
+        pub time: Duration,
+    }
+
+    impl Reply {
+        fn outcome(&self) -> Outcome {
+            let [answer, place_x, place_y, flashes, marks, copper] = self.numbers;
+            Outcome { answer, place_x, place_y, flashes, marks, copper }
+        }
+
+        fn read_outcome(&self) -> ReadOutcome {
+            let [answer, place_x, place_y, width, height, allowance] = self.numbers;
+            ReadOutcome { answer, place_x, place_y, width, height, allowance }
+        }
+
+        fn write_outcome(&self) -> WriteOutcome {
+            let [answer, place_x, place_y, length, _, _] = self.numbers;
+            WriteOutcome { answer, place_x, place_y, length }
+        }
+    }
+
+    pub(super) const GUARD: usize = 64;
+
+    fn guard_byte(at: usize) -> u8 {
+        (at as u8).wrapping_mul(37) ^ 0xa5
+    }
+
+    /// A buffer that is lent: its bytes between two rows of guard bytes.
+    pub(super) struct Lent {
+        pub whole: Vec<u8>,
+    }
+
+    impl Lent {
+        fn new(bytes: &[u8]) -> Lent {
+            let guard = (0..GUARD).map(guard_byte);
+            Lent { whole: guard.clone().chain(bytes.iter().copied()).chain(guard).collect() }
+        }
+
+        pub fn len(&self) -> usize {
+            self.whole.len() - 2 * GUARD
+        }
+
+        fn bytes(&self, name: &str) -> &[u8] {
+            let end = GUARD + self.len();
+            for at in 0..GUARD {
+                assert_eq!(self.whole[at], guard_byte(at), "a byte before {name} was changed");
+                assert_eq!(self.whole[end + at], guard_byte(at), "a byte behind {name} was changed");
+            }
+            &self.whole[GUARD..end]
+        }
+
+        fn unchanged(&self, name: &str, before: &[u8]) {
+            assert_eq!(self.bytes(name), before, "{name} was changed");
+        }
+
+        fn copy_back(&self, name: &str, room: &mut [u8]) {
+            room.copy_from_slice(self.bytes(name));
+        }
+    }
+}
+
+/// On x86-64 the functions are linked in.
+#[cfg(all(feature = "linked", target_arch = "x86_64"))]
+mod direct {
+    use super::linked::{Function, Lent, Reply, Request, GUARD};
+    use super::{Outcome, ReadOutcome, WriteOutcome};
+    use std::time::Instant;
+
+    extern "C" {
+        fn keekaboor_cover(
+            width: u64,
+            height: u64,
+            allowance: u64,
+            raster: *const u8,
+            raster_len: usize,
+            flash_room: *mut u8,
+            flash_len: usize,
+            mark_room: *mut u8,
+            mark_len: usize,
+        ) -> Outcome;
+        fn keekaboor_read_job(text: *const u8, text_len: usize, raster_room: *mut u8, raster_len: usize)
+            -> ReadOutcome;
+        fn keekaboor_write_job(
+            width: u64,
+            height: u64,
+            allowance: u64,
+            raster: *const u8,
+            raster_len: usize,
+            text_room: *mut u8,
+            text_len: usize,
+        ) -> WriteOutcome;
+    }
+
+    pub(super) fn call(request: &Request, lent: &mut [Lent; 3]) -> Reply {
+        let len = [lent[0].len(), lent[1].len(), lent[2].len()];
+        let [a, b, c] = lent;
+        // The three are separate allocations, so they do not overlap, and each has GUARD bytes before the lent part.
+        let (a, b, c) = (a.whole[GUARD..].as_ptr(), b.whole[GUARD..].as_mut_ptr(), c.whole[GUARD..].as_mut_ptr());
+        let [x, y, z] = request.numbers;
+        let mut numbers = [0; 6];
+        let start = Instant::now();
+        for _ in 0..request.times {
+            numbers = unsafe {
+                match request.function {
+                    Function::Cover => {
+                        let o = keekaboor_cover(x, y, z, a, len[0], b, len[1], c, len[2]);
+                        [o.answer, o.place_x, o.place_y, o.flashes, o.marks, o.copper]
+                    }
+                    Function::ReadJob => {
+                        let o = keekaboor_read_job(a, len[0], b, len[1]);
+                        [o.answer, o.place_x, o.place_y, o.width, o.height, o.allowance]
+                    }
+                    Function::WriteJob => {
+                        let o = keekaboor_write_job(x, y, z, a, len[0], b, len[1]);
+                        [o.answer, o.place_x, o.place_y, o.length, 0, 0]
+                    }
+                }
+            };
+        }
+        Reply { numbers, time: start.elapsed() }
+    }
+}
+
+/// On another machine they are linked into the program `far/far.c`, which runs under the kit's emulator:
+/// one for each thread, spoken to over its standard input and output.
+#[cfg(all(feature = "linked", not(target_arch = "x86_64")))]
+mod far {
+    use super::linked::{Lent, Reply, Request, GUARD};
+    use std::cell::RefCell;
+    use std::io::{Read, Write};
+    use std::process::{Child, Command, Stdio};
+    use std::time::Duration;
+
+    struct Far(Child);
+
+    impl Far {
+        fn start() -> Far {
+            let mut words = env!("FAR_PREFIX").split('\u{1f}').chain([env!("FAR_PROGRAM")]);
+            let mut command = Command::new(words.next().unwrap());
+            command.args(words).stdin(Stdio::piped()).stdout(Stdio::piped());
+            Far(command.spawn().expect("the far side starts"))
+        }
+
+        fn call(&mut self, request: &Request, lent: &mut [Lent; 3]) -> Reply {
+            let mut message = Vec::new();
+            let [x, y, z] = request.numbers;
+            let sizes = [lent[0].len(), lent[1].len(), lent[2].len()].map(|len| len as u64);
+            let head = [request.function as u64, request.times, x, y, z, sizes[0], sizes[1], sizes[2], GUARD as u64];
+            head.iter().for_each(|number| message.extend(number.to_le_bytes()));
+            lent.iter().for_each(|part| message.extend(&part.whole));
+            self.0.stdin.as_mut().unwrap().write_all(&message).expect("the far side listens");
+            let heads = 7 * 8;
+            message.resize(heads + lent.iter().map(|part| part.whole.len()).sum::<usize>(), 0);
+            self.0.stdout.as_mut().unwrap().read_exact(&mut message).expect("the far side answers");
+            let (head, mut rest) = message.split_at(heads);
+            let number = |i: usize| u64::from_le_bytes(head[8 * i..8 * i + 8].try_into().unwrap());
+            let numbers = [0, 1, 2, 3, 4, 5].map(number);
+            let time = Duration::from_nanos(number(6));
+            for part in lent {
+                let (bytes, after) = rest.split_at(part.whole.len());
+                part.whole.copy_from_slice(bytes);
+                rest = after;
+            }
+            Reply { numbers, time }
+        }
+    }
+
+    impl Drop for Far {
+        fn drop(&mut self) {
+            drop(self.0.stdin.take());
+            let _ = self.0.wait();
+        }
+    }
+
+    thread_local!(static FAR: RefCell<Far> = RefCell::new(Far::start()));
+
+    pub(super) fn call(request: &Request, lent: &mut [Lent; 3]) -> Reply {
+        FAR.with(|far| far.borrow_mut().call(request, lent))
+    }
+}

@@ -1,0 +1,4 @@
+pub mod Few
+pub mod Program
+pub mod Determined
+pub mod Plus

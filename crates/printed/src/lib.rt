@@ -1,0 +1,3 @@
+// An outcome as lines of text.
+pub mod lines;
+pub mod outcome;

@@ -1,0 +1,56 @@
+// The cover program's printed form of an outcome.
+ghost use Prim.Native.Nat.{_+_, _≤_};
+ghost use lib.ListN.{length};
+ghost use Rattle.text.specs.Words.{Written};
+ghost use Rattle.printed.specs.Printed.{coverLine, refusedLine, Printable, Prints};
+use crate::lines::put_flash_lines;
+use crate::lines::put_line;
+use crate::lines::put_mark_lines;
+use cover::entry::Outcome;
+use grid::answers::ALLOWANCE_SHORT;
+use grid::answers::DONE;
+use grid::limits::FLASH_RECORD;
+use grid::limits::MARK_RECORD;
+use grid::limits::SIDE;
+
+// The longest line of each kind: its word, a tab and the most digits for each field, and the line feed.
+const COVER_LINE_ROOM: usize = 5 + (1 + 2) + (1 + 20) + 1;
+
+const FLASH_LINE_ROOM: usize = 5 + FLASH_RECORD * (1 + 3) + 1;
+
+const MARK_LINE_ROOM: usize = 4 + MARK_RECORD * (1 + 3) + 1;
+
+// The longest print.
+pub const PRINT_ROOM: usize = COVER_LINE_ROOM + SIDE * FLASH_LINE_ROOM + SIDE * MARK_LINE_ROOM;
+
+fn put_cover_line(out: &mut [u8], spot: usize, outcome: Outcome) -> usize
+    requires { ⌜ spot + length (coverLine outcome) ≤ length (now out) ⌝ }
+    ensures { λ r. ⌜ Written (now (out .entry)) spot (coverLine outcome) r (now (out .exit)) ⌝ }
+{
+    let numbers = [outcome.flashes, outcome.copper];
+    put_line(out, spot, b"cover", &numbers)
+}
+
+fn put_refused_line(out: &mut [u8], spot: usize, outcome: Outcome) -> usize
+    requires { ⌜ spot + length (refusedLine outcome) ≤ length (now out) ⌝ }
+    ensures { λ r. ⌜ Written (now (out .entry)) spot (refusedLine outcome) r (now (out .exit)) ⌝ }
+{
+    let numbers = [outcome.answer, outcome.place_x, outcome.place_y];
+    put_line(out, spot, b"refused", &numbers)
+}
+
+pub fn print_outcome(outcome: Outcome, flash_room: &[u8], mark_room: &[u8], out: &mut [u8]) -> usize
+    requires { ⌜ Printable outcome (now «flash_room») (now «mark_room») (now out) ⌝ }
+    ensures { λ r. ⌜ Prints outcome (now («flash_room» .entry)) (now («mark_room» .entry)) (now (out .entry)) r (now (out .exit)) ⌝ }
+{
+    if outcome.answer == DONE {
+        let flashes = put_cover_line(out, 0, outcome);
+        let marks = put_flash_lines(out, flashes, flash_room, outcome.flashes as usize);
+        return put_mark_lines(out, marks, mark_room, outcome.marks as usize);
+    }
+    let marks = put_refused_line(out, 0, outcome);
+    if outcome.answer != ALLOWANCE_SHORT {
+        return marks;
+    }
+    put_mark_lines(out, marks, mark_room, outcome.marks as usize)
+}

@@ -11,7 +11,7 @@ use Rattle.grid.specs.Raster.{firstBad, gap, brokenFrom}
 use Rattle.text.specs.Words.{begins}
 use Rattle.text.specs.Decimal.{digits, decimal, run, value}
 use Rattle.job.specs.JobText.{shapeLine, rowHead, rowLine}
-use Rattle.job.specs.Reading.{shapeAt, rowAt, rowsFrom, rasterFrom, judgedFrom, judged}
+use Rattle.job.specs.Reading.{shapeAt, rowAt, rowsFrom, rasterFrom, judgedLines, judged}
 use Rattle.cover.specs.Slices.{endsLeft, endsRight, copperAlong, slice, starting, markRow}
 use Rattle.cover.specs.Flashes.{flash, flashes, flashedArea}
 use Rattle.cover.specs.Marks.{mark, byColumn, marks}
@@ -30,7 +30,7 @@ plusText =
     ++ (114 ∷ 111 ∷ 119 ∷ 9 ∷ 48 ∷ 9 ∷ 46 ∷ 35 ∷ 46 ∷ 10 ∷ [])
 
 pub plus-prints : programText plusText ≡ fiveLines
-unfolding programText judged judgedFrom shapeAt rowsFrom rowAt rasterFrom shapeLine rowLine rowHead digits decimal run value begins
+unfolding programText judged judgedLines shapeAt rowsFrom rowAt rasterFrom shapeLine rowLine rowHead digits decimal run value begins
     coveredInside dependent minimal outermost meets reduce leftmost reduced final heldOnce strike least found marked firstBad gap brokenFrom
     endsLeft endsRight copperAlong slice starting markRow flash flashes flashedArea mark byColumn marks coverGives
     printed line flashLines markLines flashesIn marksIn

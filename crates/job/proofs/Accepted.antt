@@ -2,33 +2,30 @@
 -- Both ways row by row: the text from a row's spot on is the lines of the rows from there down, and the raster so far is the rows below.
 -- The round trips are this, said of the exported functions.
 use mathlib.Core.Path.{_≡_, refl, sym, ap, _∙_}
-use mathlib.Core.Bool.{Bool, true, false, _&&_}
-use mathlib.Core.List.{List, [], _∷_, _++_, map, append-assoc, append-nil}
-use Prim.Native.Nat.{ℕ, zero, suc, _+_, _-_, _*_, _≤_, _<_}
+use mathlib.Core.Bool.{true}
+use mathlib.Core.List.{List, [], _∷_, _++_, append-assoc, append-nil}
+use Prim.Native.Nat.{ℕ, zero, suc, _+_, _*_, _≤_, _<_}
 use native.Mathlib.Omega.{arith}
 use native.Mathlib.Nat.{le-refl, zero-add, zero-mul, suc-mul, mul-comm}
 use lib.Dec.{leb, eqb}
 use lib.ListN.{length, take, drop, length-append, length-drop, drop-of-length-le}
 use lib.Seq.{drop-drop, drop-append-seam, drop-at, take-at, take-add, take-all}
 use borrow.Author.Tests.{eqb-true}
-use Rattle.lists.specs.Lists.{all}
 use Rattle.lists.proofs.Truth.{and-left, and-right, and-both}
-use Rattle.grid.specs.Limits.{side, allowanceLimit, rasterRoom, textRoom}
+use Rattle.grid.specs.Limits.{rasterRoom}
 use Rattle.grid.specs.declared.raster.Job.{Job}
 use Rattle.text.specs.declared.read.Next.{Next}
-use Rattle.text.proofs.Passes.{Passes, passes-inside}
+use Rattle.text.proofs.Passes.{passes-inside}
 use Rattle.job.specs.JobText.{shapeLine, rowHead, rowLine, rowOf, rowLines, jobText, IsJob}
-use Rattle.job.specs.Reading.{squaresAt, rowAt, thenRows, shapeAt, rowsFrom, rasterFrom, judged}
-use Rattle.job.specs.declared.lines.Shape.the-variants.{Line}
-use Rattle.job.specs.declared.read.Lines.{Lines}
-use Rattle.job.specs.declared.read.Lines.the-variants.{Ruled, Bad}
-use Rattle.job.specs.declared.read.Judged.the-variants.{Refused, Fine}
-use Rattle.job.proofs.Lengths.{length-row, length-row-of, length-shape, longest}
-use Rattle.job.proofs.Shape.{Shaped, whole-shaped, shaped-whole}
+use Rattle.job.specs.Reading.{squaresAt, thenRows, rowsFrom, rasterFrom, judged}
+use Rattle.job.specs.declared.lines.Lines.the-variants.{Ruled}
+use Rattle.job.specs.declared.read.Judged.the-variants.{Fine}
+use Rattle.job.proofs.Lengths.{length-row, length-row-of, longest}
+use Rattle.job.proofs.Shape.{whole-shaped, shaped-whole}
 use Rattle.job.proofs.Row.{squares?, are-squares, Rowed, rowed-whole, squares-found}
 use Rattle.job.proofs.Rows.{pastRow, row-there, rows-there, length-raster, rows-next, rows-none, rows-ended, ruled-cond}
 use Rattle.job.proofs.Text.{lines-next, lines-none}
-use Rattle.job.proofs.Judging.{Judgement, judged-fine, fine}
+use Rattle.job.proofs.Judging.{Judgement, fine}
 
 -- raster bytes that are 0 or 1, of a part and of two lists
 pub squares-take : (n : ℕ) (xs : List ℕ) → squares? xs ≡ true → squares? (take n xs) ≡ true

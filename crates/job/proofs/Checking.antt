@@ -1,21 +1,21 @@
 -- The checks of a job in their order: what each failed check answers, and what follows a passed one.
 -- Each rewrites one test; bytes are all 0 or 1 exactly where no place is found that is not.
 -- The proofs of `check_job` and `keekaboor_write_job` and the round trips cite them.
-use mathlib.Core.Path.{_≡_, refl, sym, ap, subst, _∙_}
+use mathlib.Core.Path.{_≡_, refl, ap, subst, _∙_}
 use mathlib.Core.Bool.{Bool, true, false}
 use mathlib.Core.List.{List, [], _∷_}
 use mathlib.Core.Option.{Option, none, some}
-use Prim.Native.Nat.{ℕ, zero, suc, _+_, _*_, _≤_, _<_}
+use Prim.Native.Nat.{ℕ, zero, suc, _*_, _≤_, _<_}
 use native.Mathlib.Omega.{arith}
-use lib.Dec.{leb, ltb, eqb}
+use lib.Dec.{leb, ltb}
 use lib.ListN.{length, getD}
 use borrow.Author.Tests.{le-leb, lt-leb, leb-true, ltb-false, le-ltb, eq-eqb, eqb-true}
-use Rattle.lists.specs.Lists.{all, first, upTo}
+use Rattle.lists.specs.Lists.{upTo}
 use Rattle.lists.proofs.Truth.{and-left, and-right, and-both}
-use Rattle.lists.proofs.Members.{In, first-none, none-first}
+use Rattle.lists.proofs.Members.{first-none, none-first}
 use Rattle.lists.proofs.Ranges.{in-from, from-in}
-use Rattle.grid.specs.Limits.{side, allowanceLimit, textRoom}
-use Rattle.grid.specs.Answers.{answer, refused, sizeOut, rasterLength, textRoomShort, allowanceOut, badByte}
+use Rattle.grid.specs.Limits.{allowanceLimit, textRoom}
+use Rattle.grid.specs.Answers.{refused, sizeOut, rasterLength, textRoomShort, allowanceOut}
 use Rattle.grid.specs.Raster.{sizeFits, lengthFits, Sized, firstBad, placeIn, badPlace}
 use Rattle.grid.specs.declared.answers.Answer.{Answer}
 use Rattle.grid.specs.declared.raster.Job.{Job}
@@ -28,7 +28,7 @@ use Rattle.job.specs.declared.write.Checked.{Checked}
 use Rattle.job.specs.declared.write.Checked.the-variants.{Refused, Fine}
 use Rattle.job.proofs.Lengths.{longest}
 use Rattle.job.proofs.Row.{squares?}
-use Rattle.job.proofs.Judging.{Sides, sides, sides-fit}
+use Rattle.job.proofs.Judging.{sides, sides-fit}
 
 module _ (w h k : ℕ) (raster : List ℕ) (room : ℕ) where
   pub not-sized : sizeFits w h ≡ false → checked w h k raster room ≡ Refused (refused sizeOut)

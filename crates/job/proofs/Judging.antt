@@ -1,7 +1,7 @@
 -- The checks of a text in their order: what each failed check answers, and what follows a passed one.
 -- Each rewrites one test. The proofs of `judge_from` and `judge` and the round trips cite them.
-use mathlib.Core.Path.{_≡_, refl, sym, ap, _∙_}
-use mathlib.Core.Bool.{Bool, true, false, _&&_}
+use mathlib.Core.Path.{_≡_, refl, ap, _∙_}
+use mathlib.Core.Bool.{Bool, true, false}
 use mathlib.Core.List.{List}
 use Prim.Native.Nat.{ℕ, _≤_, _<_}
 use native.Mathlib.Omega.{arith}
@@ -15,11 +15,11 @@ use Rattle.grid.specs.Answers.{answer, refused, sizeOut, allowanceOut, textLong
 use Rattle.grid.specs.Raster.{sideFits, sizeFits}
 use Rattle.grid.specs.declared.answers.Answer.{Answer}
 use Rattle.grid.specs.declared.raster.Job.{Job}
-use Rattle.job.specs.Reading.{unless, shapeAt, rowsFrom, judgeRows, judgeShape, judgedFrom, judged, Copies}
+use Rattle.job.specs.Reading.{unless, shapeAt, rowsFrom, judgeRows, judgeShape, judgedLines, judged, Copies}
 use Rattle.job.specs.declared.lines.Shape.{Shape}
 use Rattle.job.specs.declared.lines.Shape.the-variants.{Line, Nothing}
-use Rattle.job.specs.declared.read.Lines.{Lines}
-use Rattle.job.specs.declared.read.Lines.the-variants.{Ruled, Bad}
+use Rattle.job.specs.declared.lines.Lines.{Lines}
+use Rattle.job.specs.declared.lines.Lines.the-variants.{Ruled, Bad}
 use Rattle.job.specs.declared.read.Judged.{Judged}
 use Rattle.job.specs.declared.read.Judged.the-variants.{Refused, Fine}
 
@@ -47,31 +47,31 @@ sides-fit w h s =
     (and-both (leb 1 w) (leb w side) (le-leb 1 w (s .wide)) (le-leb w side (s .narrow)))
     (and-both (leb 1 h) (leb h side) (le-leb 1 h (s .tall)) (le-leb h side (s .low)))
 
-module _ (t : List ℕ) (s : ℕ) where
-  pub no-shape : shapeAt t s ≡ Nothing → judgedFrom t s ≡ Refused (answer badLine 1 0)
-  unfolding judgedFrom
+module _ (t : List ℕ) where
+  pub no-shape : shapeAt t 0 ≡ Nothing → judgedLines t ≡ Refused (answer badLine 1 0)
+  unfolding judgedLines
   no-shape e = ap (judgeShape t) e
 
-  module _ {w h k next : ℕ} (e : shapeAt t s ≡ Line w h k next) where
-    opened : judgedFrom t s ≡ judgeShape t (Line w h k next)
-    unfolding judgedFrom
+  module _ {w h k next : ℕ} (e : shapeAt t 0 ≡ Line w h k next) where
+    opened : judgedLines t ≡ judgeShape t (Line w h k next)
+    unfolding judgedLines
     opened = ap (judgeShape t) e
 
-    pub not-sized : sizeFits w h ≡ false → judgedFrom t s ≡ Refused (refused sizeOut)
+    pub not-sized : sizeFits w h ≡ false → judgedLines t ≡ Refused (refused sizeOut)
     not-sized f = opened ∙ rw f
 
     module _ (fit : sizeFits w h ≡ true) where
-      pub not-allowed : allowanceLimit < k → judgedFrom t s ≡ Refused (refused allowanceOut)
+      pub not-allowed : allowanceLimit < k → judgedLines t ≡ Refused (refused allowanceOut)
       not-allowed l = opened ∙ rw (fit, lt-leb k allowanceLimit l)
 
       module _ (l : k ≤ allowanceLimit) where
-        on-to-rows : judgedFrom t s ≡ judgeRows (rowsFrom t w h 2 next) (Fine (record { width = w; height = h; allowance = k }) next)
+        on-to-rows : judgedLines t ≡ judgeRows (rowsFrom t w h 2 next) (Fine (record { width = w; height = h; allowance = k }) next)
         on-to-rows = opened ∙ rw (fit, le-leb k allowanceLimit l)
 
-        pub bad-row : {n : ℕ} → rowsFrom t w h 2 next ≡ Bad n → judgedFrom t s ≡ Refused (answer badLine n 0)
+        pub bad-row : {n : ℕ} → rowsFrom t w h 2 next ≡ Bad n → judgedLines t ≡ Refused (answer badLine n 0)
         bad-row b = on-to-rows ∙ ap (λ (x : Lines). judgeRows x (Fine (record { width = w; height = h; allowance = k }) next)) b
 
-        pub all-fine : rowsFrom t w h 2 next ≡ Ruled → judgedFrom t s ≡ Fine (record { width = w; height = h; allowance = k }) next
+        pub all-fine : rowsFrom t w h 2 next ≡ Ruled → judgedLines t ≡ Fine (record { width = w; height = h; allowance = k }) next
         all-fine b = on-to-rows ∙ ap (λ (x : Lines). judgeRows x (Fine (record { width = w; height = h; allowance = k }) next)) b
 
 module _ (t : List ℕ) (room : ℕ) where
@@ -83,7 +83,7 @@ module _ (t : List ℕ) (room : ℕ) where
   unfolding judged
   long-text h l = rw (le-leb rasterRoom room h, lt-leb (length t) textRoom l)
 
-  pub on-to-lines : rasterRoom ≤ room → length t ≤ textRoom → judged t room ≡ judgedFrom t 0
+  pub on-to-lines : rasterRoom ≤ room → length t ≤ textRoom → judged t room ≡ judgedLines t
   unfolding judged
   on-to-lines h l = rw (le-leb rasterRoom room h, le-leb (length t) textRoom l)
 
@@ -99,7 +99,7 @@ pub record Judgement (t : List ℕ) (room : ℕ) (job : Job) (spot : ℕ) : Type
 pub fine : (t : List ℕ) (room : ℕ) (job : Job) (spot : ℕ) → Judgement t room job spot → judged t room ≡ Fine job spot
 fine t room job spot j =
     on-to-lines t room (j .holds) (j .short)
-    ∙ all-fine t 0 (j .shape) (sides-fit (job .width) (job .height) (j .sized)) (j .allowed) (j .ruled)
+    ∙ all-fine t (j .shape) (sides-fit (job .width) (job .height) (j .sized)) (j .allowed) (j .ruled)
 
 not-fine : {a : Answer} {job : Job} {spot : ℕ} → Refused a ≡ Fine job spot → ⊥
 not-fine e = let z : _≡_ {A = ℕ} 0 1 = cc in omega arith
@@ -139,7 +139,7 @@ shape-passed t room (Line w h k next) {job} {spot} a b s e =
     }
 
 pub judged-fine : (t : List ℕ) (room : ℕ) {job : Job} {spot : ℕ} → judged t room ≡ Fine job spot → Judgement t room job spot
-unfolding judged judgedFrom
+unfolding judged judgedLines
 judged-fine t room e =
     let rest : Judged = judgeShape t (shapeAt t 0) in
     let p = passed (leb rasterRoom room) (refused rasterRoomShort) (unless (leb (length t) textRoom) (Refused (refused textLong)) rest) e in

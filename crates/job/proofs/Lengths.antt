@@ -1,22 +1,20 @@
 -- How long the lines and the text of a job are, and that no job's text is longer than 4,613 bytes.
 -- Sums of the lengths of their parts; a number below 100 has one digit, or two from 10 on.
 -- The writer's room, the reader's spots and the longest job use it.
-use mathlib.Core.Path.{_≡_, refl, sym, ap, _∙_}
-use mathlib.Core.Bool.{Bool, true, false, cond}
+use mathlib.Core.Path.{_≡_, _∙_}
 use mathlib.Core.List.{List, [], _∷_, _++_, map}
 use mathlib.Core.Logic.{by-cases}
-use Prim.Native.Nat.{ℕ, zero, suc, _+_, _-_, _*_, _/_, _≤_, _<_, min}
+use Prim.Native.Nat.{ℕ, zero, suc, _+_, _-_, _*_, _/_, _≤_, _<_}
 use native.Mathlib.Omega.{arith}
 use native.Mathlib.Nat.{le-refl, mul-le-mul, mul-le-mul-right, mul-comm, suc-mul, zero-mul}
 use native.Mathlib.Decide.{decLt}
-use lib.Dec.{leb}
-use lib.ListN.{length, take, drop, length-append, length-take, length-drop}
+use lib.ListN.{length, drop, length-append, length-take, length-drop}
 use borrow.Author.Tests.{le-leb, lt-leb}
 use Rattle.grid.specs.Limits.{side, allowanceLimit, textRoom}
 use Rattle.text.specs.Words.{tab, feed, glyph}
 use Rattle.text.specs.Decimal.{decimal, field}
 use Rattle.text.proofs.Turns.{count-small, count-more, length-map}
-use Rattle.job.specs.JobText.{shapeWord, shapeLine, rowWord, rowHead, rowLine, rowOf, rowLines, jobText, IsJob, places, textLength}
+use Rattle.job.specs.JobText.{shapeLine, rowHead, rowLine, rowOf, rowLines, jobText, IsJob, places, textLength}
 
 pub count-places : (n : ℕ) → n < 100 → length (decimal n) ≡ places n
 count-places n h =

@@ -11,3 +11,5 @@ pub mod Accepted
 pub mod Outcomes
 pub mod RoundTrip
 pub mod Determined
+pub mod Walk
+pub mod Held

@@ -1,9 +1,9 @@
 -- An outcome with answer 0 is that of a job, and every other one is a refusal that wrote nothing.
 -- Each refusal has a number of document 01, from 1 on, so answer 0 tells the two apart.
 -- The theorems about the exported functions open their outcomes with these.
-use mathlib.Core.Path.{_≡_, refl, sym, ap, _∙_}
+use mathlib.Core.Path.{_≡_, refl, ap, _∙_}
 use mathlib.Core.Bool.{Bool, true, false}
-use mathlib.Core.List.{List, _++_}
+use mathlib.Core.List.{List}
 use Prim.Native.Nat.{ℕ, _≤_}
 use native.Mathlib.Omega.{arith}
 use lib.Dec.{leb}
@@ -16,12 +16,12 @@ use Rattle.grid.specs.declared.raster.Job.{Job}
 use Rattle.grid.specs.declared.raster.Place.{Place}
 use Rattle.grid.specs.declared.raster.Place.the-variants.{Nowhere, At}
 use Rattle.text.specs.Words.{written}
-use Rattle.job.specs.Reading.{unless, shapeAt, rowsFrom, rasterFrom, judgeRows, judgeShape, judgedFrom, judged, readOutcome, readRoom, ReadJob}
+use Rattle.job.specs.Reading.{unless, shapeAt, rowsFrom, rasterFrom, judgeRows, judgeShape, judgedLines, judged, readOutcome, readRoom, ReadJob}
 use Rattle.job.specs.Writing.{checkPlace, checked, textOf, writeOutcome, writtenRoom, WriteJob}
 use Rattle.job.specs.declared.lines.Shape.{Shape}
 use Rattle.job.specs.declared.lines.Shape.the-variants.{Line, Nothing}
-use Rattle.job.specs.declared.read.Lines.{Lines}
-use Rattle.job.specs.declared.read.Lines.the-variants.{Ruled, Bad}
+use Rattle.job.specs.declared.lines.Lines.{Lines}
+use Rattle.job.specs.declared.lines.Lines.the-variants.{Ruled, Bad}
 use Rattle.job.specs.declared.read.Judged.{Judged}
 use Rattle.job.specs.declared.read.Judged.the-variants.{Refused, Fine}
 use Rattle.job.specs.declared.read.ReadOutcome.{ReadOutcome}
@@ -51,7 +51,7 @@ shape-numbered t (Line w h k next) =
     (unless-numbered (leb k allowanceLimit) (refused allowanceOut) rows (omega arith) (rows-numbered (rowsFrom t w h 2 next) job next))
 
 judged-numbered : (t : List ℕ) (room : ℕ) → Numbered (judged t room)
-unfolding judged judgedFrom
+unfolding judged judgedLines
 judged-numbered t room =
     let rest : Judged = judgeShape t (shapeAt t 0) in
     unless-numbered (leb rasterRoom room) (refused rasterRoomShort) (unless (leb (length t) textRoom) (Refused (refused textLong)) rest) (omega arith)

@@ -2,11 +2,11 @@
 use mathlib.Core.Path.{_≡_, refl}
 use mathlib.Core.List.{List, [], _∷_, _++_}
 use Prim.Native.Nat.{ℕ}
-use Rattle.grid.specs.Answers.{answer, refused}
+use Rattle.grid.specs.Answers.{answer}
 use Rattle.text.specs.Words.{begins}
 use Rattle.text.specs.Decimal.{digits, decimal, run, value}
-use Rattle.job.specs.JobText.{shapeLine, rowHead, rowLine, rowLines, jobText, textLength}
-use Rattle.job.specs.Reading.{shapeAt, rowAt, rowsFrom, rasterFrom, judgedFrom, judged}
+use Rattle.job.specs.JobText.{shapeLine, rowHead, rowLine, rowLines, jobText}
+use Rattle.job.specs.Reading.{shapeAt, rowAt, rowsFrom, rasterFrom, judgedLines, judged}
 use Rattle.job.specs.declared.read.Judged.the-variants.{Refused, Fine}
 
 abbrev pub plusText : List ℕ
@@ -24,7 +24,7 @@ unfolding jobText shapeLine rowLines rowLine rowHead decimal digits
 written = refl
 
 pub read : judged plusText 4096 ≡ Fine (record { width = 3; height = 3; allowance = 64 }) 13
-unfolding judged judgedFrom shapeAt rowsFrom rowAt shapeLine rowLine rowHead decimal digits run value begins
+unfolding judged judgedLines shapeAt rowsFrom rowAt shapeLine rowLine rowHead decimal digits run value begins
 read = refl
 
 pub raster : rasterFrom plusText 3 3 13 ≡ plusRaster
@@ -33,9 +33,9 @@ raster = refl
 
 -- text past the end, a missing line, a leading zero, a fifth digit
 pub past-end : judged (plusText ++ (10 ∷ [])) 4096 ≡ Refused (answer 11 5 0)
-unfolding judged judgedFrom shapeAt rowsFrom rowAt shapeLine rowLine rowHead decimal digits run value begins
+unfolding judged judgedLines shapeAt rowsFrom rowAt shapeLine rowLine rowHead decimal digits run value begins
 past-end = refl
 
 pub none-at-all : judged [] 4096 ≡ Refused (answer 11 1 0)
-unfolding judged judgedFrom shapeAt rowsFrom rowAt shapeLine rowLine rowHead decimal digits run value begins
+unfolding judged judgedLines shapeAt rowsFrom rowAt shapeLine rowLine rowHead decimal digits run value begins
 none-at-all = refl

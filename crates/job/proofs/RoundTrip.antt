@@ -3,7 +3,7 @@
 use mathlib.Core.Path.{_≡_, refl, sym, ap, subst, _∙_}
 use mathlib.Core.Bool.{true}
 use mathlib.Core.List.{List, _++_}
-use Prim.Native.Nat.{ℕ, zero, _*_, _≤_}
+use Prim.Native.Nat.{ℕ, zero, suc, _*_, _≤_}
 use native.Mathlib.Omega.{arith}
 use native.Mathlib.Nat.{zero-add}
 use lib.ListN.{length, take, drop, replicate, length-replicate}
@@ -13,7 +13,7 @@ use Rattle.grid.specs.declared.raster.Job.{Job}
 use Rattle.text.specs.Words.{written}
 use Rattle.job.specs.JobText.{jobText, IsJob, textLength}
 use Rattle.job.specs.Reading.{rasterFrom, judged, readOutcome, readRoom, ReadJob}
-use Rattle.job.specs.Writing.{checked, textOf, writeOutcome, writtenRoom, WriteJob}
+use Rattle.job.specs.Writing.{writeOutcome, writtenRoom, WriteJob}
 use Rattle.job.specs.declared.read.ReadOutcome.{ReadOutcome}
 use Rattle.job.specs.declared.write.WriteOutcome.{WriteOutcome}
 use Rattle.job.proofs.Lengths.{length-text, longest}
@@ -21,7 +21,7 @@ use Rattle.job.proofs.Row.{squares?}
 use Rattle.job.proofs.Judging.{judged-fine}
 use Rattle.job.proofs.Checking.{checked-fine, fine}
 use Rattle.job.proofs.Accepted.{accepted-job, accepted-text, text-accepted, text-raster}
-use Rattle.job.proofs.Outcomes.{ReadDone, read-done, WriteDone, write-done}
+use Rattle.job.proofs.Outcomes.{ReadDone, read-done, write-done}
 
 front : (room bytes : List ℕ) → written room 0 bytes ≡ bytes ++ drop (length bytes) room
 unfolding written
@@ -160,11 +160,21 @@ written-length {w} {h} {k} {raster} p z =
     let t = writes-text p z in
     (t .1 .count ∙ length-text w h k raster (t .0), omega (arith, t .1 .count, longest w h k raster (t .0)))
 
--- and that bound is reached: 64 by 64, whatever the raster, with an allowance of 64.
-pub longest-reached : {raster room after : List ℕ} {o : WriteOutcome} → length raster ≡ side * side → squares? raster ≡ true → textRoom ≤ length room
+-- which a job of 64 by 64 with an allowance of 64 has, whatever its raster;
+pub at-the-limits : {raster room after : List ℕ} {o : WriteOutcome} → length raster ≡ side * side → squares? raster ≡ true → textRoom ≤ length room
     → WriteJob side side allowanceLimit raster room o after → (o .answer ≡ 0) × (o .length ≡ 4613)
-longest-reached {raster} {room} {after} {o} full squares holds p =
+at-the-limits {raster} full squares holds p =
     let j : IsJob side side allowanceLimit raster =
     record { wide = omega arith; narrow = omega arith; tall = omega arith; low = omega arith; allowed = omega arith; full = full; squares = squares } in
     let t = text-writes j holds p in
     (t .answer, t .count ∙ length-text side side allowanceLimit raster j)
+
+-- so the bound is reached, by a raster with no copper for one.
+no-copper : (n : ℕ) → squares? (replicate n 0) ≡ true
+no-copper zero = refl
+no-copper (suc n) = no-copper n
+
+pub longest-reached : (raster : List ℕ)
+    × ((room after : List ℕ) (o : WriteOutcome) → textRoom ≤ length room → WriteJob side side allowanceLimit raster room o after → (o .answer ≡ 0) × (o .length ≡ 4613))
+longest-reached =
+    (replicate (side * side) 0, λ room after o holds p. at-the-limits (length-replicate (side * side) zero) (no-copper (side * side)) holds p)

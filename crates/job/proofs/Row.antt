@@ -2,21 +2,22 @@
 -- Both succeed exactly where the text goes on with the row's line for some squares, as many as the width; the bytes behind the head fix them.
 -- The proof of `read_row` and the round trips use it.
 use mathlib.Core.Path.{_≡_, refl, sym, ap, _∙_}
-use mathlib.Core.Bool.{Bool, true, false, cond}
+use mathlib.Core.Bool.{Bool, true, cond}
 use mathlib.Core.List.{List, [], _∷_, _++_, map}
-use Prim.Native.Nat.{ℕ, _+_, _≤_, _<_, min}
+use mathlib.Core.Logic.{_↔_}
+use Prim.Native.Nat.{ℕ, _+_, _≤_}
 use native.Mathlib.Omega.{arith}
 use native.Mathlib.Nat.{le-refl}
 use lib.Dec.{leb, eqb}
-use lib.ListN.{length, take, drop, length-append, length-take, length-drop}
+use lib.ListN.{length, take, drop, length-take, length-drop}
 use lib.Seq.{take-at}
-use borrow.Author.Tests.{le-leb, eq-eqb, eqb-true}
+use borrow.Author.Tests.{eq-eqb, eqb-true}
 use Rattle.lists.specs.Lists.{all}
 use Rattle.lists.proofs.Truth.{bcase, and-both}
 use Rattle.text.specs.declared.read.Next.{Next}
 use Rattle.text.specs.declared.read.Next.the-variants.{Spot, Nothing}
-use Rattle.text.specs.Words.{tab, feed, stands, found, wordAt, glyph, square, bodyAt}
-use Rattle.text.specs.Decimal.{decimal, field, fieldAt}
+use Rattle.text.specs.Words.{tab, feed, stands, wordAt, glyph, square, bodyAt}
+use Rattle.text.specs.Decimal.{field, fieldAt}
 use Rattle.text.proofs.Stands.{squares-glyphs}
 use Rattle.text.proofs.Turns.{length-map}
 use Rattle.text.proofs.Passes.{Passes, passes-stands, stands-passes, passes-inside, passes-both, passes-first, passes-second, found-spot, word-passes, passes-word, ends, field-passes, passes-field, body-passes, passes-body}
@@ -164,3 +165,7 @@ module _ (t : List ℕ) (s w r : ℕ) where
       go (Spot j) y a b = a ∙ sym (rowed-steps (squaresAt t (s + length (rowHead r)) w) (whole-rowed t s w r a))
       go Nothing (Spot j) a b = let u = steps-rowed b in rowed-whole t s w r (u .0) (u .1) ∙ sym b
       go Nothing Nothing a b = a ∙ sym b
+
+-- The line of row r is as ruled exactly where the text goes on with it for some squares, as many as the width.
+pub row-ruled : (t : List ℕ) (s w r j : ℕ) → (rowAt t s w r ≡ Spot j) ↔ ((squares : List ℕ) × Rowed t s w r squares j)
+row-ruled t s w r j = (λ e. (squaresAt t (s + length (rowHead r)) w, whole-rowed t s w r e), λ p. rowed-whole t s w r (p .0) (p .1))

@@ -2,7 +2,7 @@
 -- Each opens the definition at the next row, once; the loops' proofs cite nothing else.
 use mathlib.Core.Path.{_≡_, refl, sym, ap, _∙_}
 use mathlib.Core.Bool.{Bool, true, false, cond}
-use mathlib.Core.List.{List, [], _∷_, _++_, map}
+use mathlib.Core.List.{List, map}
 use Prim.Native.Nat.{ℕ, zero, suc, _+_, _-_, _*_, _≤_, _<_}
 use native.Mathlib.Omega.{arith}
 use native.Mathlib.Nat.{zero-mul, suc-mul}
@@ -16,8 +16,8 @@ use Rattle.text.proofs.Writing.{written-none, written-first}
 use Rattle.text.proofs.Passes.{passes-inside}
 use Rattle.job.specs.JobText.{rowHead, rowLine}
 use Rattle.job.specs.Reading.{squaresAt, rowAt, thenRows, rowsFrom, rasterFrom}
-use Rattle.job.specs.declared.read.Lines.{Lines}
-use Rattle.job.specs.declared.read.Lines.the-variants.{Ruled, Bad}
+use Rattle.job.specs.declared.lines.Lines.{Lines}
+use Rattle.job.specs.declared.lines.Lines.the-variants.{Ruled, Bad}
 use Rattle.job.proofs.Lengths.{length-row}
 use Rattle.job.proofs.Row.{Rowed, whole-rowed}
 

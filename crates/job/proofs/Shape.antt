@@ -2,15 +2,15 @@
 -- Both succeed exactly where the text goes on with the line of numbers up to 9999: a number's digits are fixed by the tab or line feed behind them.
 -- The proof of `read_shape` and the round trips use it.
 use mathlib.Core.Path.{_≡_, refl, sym, ap, _∙_}
-use mathlib.Core.Bool.{Bool, true, false, cond, _&&_}
+use mathlib.Core.Bool.{Bool, _&&_}
 use mathlib.Core.List.{List, [], _∷_, _++_}
-use Prim.Native.Nat.{ℕ, _+_, _≤_, _<_}
+use mathlib.Core.Logic.{_↔_}
+use Prim.Native.Nat.{ℕ, _+_, _≤_}
 use native.Mathlib.Omega.{arith}
 use lib.Dec.{leb}
 use lib.ListN.{length, drop}
 use borrow.Author.Tests.{le-leb, leb-true}
-use Rattle.lists.proofs.Truth.{bcase, and-left, and-right, and-both}
-use Rattle.text.specs.declared.read.Next.the-variants.{Spot}
+use Rattle.lists.proofs.Truth.{bcase, and-left, and-right}
 use Rattle.text.specs.Words.{tab, feed, stands, wordAt}
 use Rattle.text.specs.Decimal.{decimal, run, value, field, fieldAt}
 use Rattle.text.proofs.Decimals.{value-decimal}
@@ -208,3 +208,7 @@ shape-steps t s = go (shapeAt t s) (shapeSteps t s) refl refl
     go (Line w h k n) y a b = a ∙ sym (shaped-steps t s w h k n (whole-shaped t s w h k n a))
     go Nothing (Line w h k n) a b = shaped-whole t s w h k n (steps-shaped t s w h k n b) ∙ sym b
     go Nothing Nothing a b = a ∙ sym b
+
+-- Line 1 is as ruled, with these numbers, exactly where the text goes on with the line of these numbers, each at most 9999.
+pub shape-ruled : (t : List ℕ) (s w h k n : ℕ) → (shapeAt t s ≡ Line w h k n) ↔ Shaped t s w h k n
+shape-ruled t s w h k n = (whole-shaped t s w h k n, shaped-whole t s w h k n)

@@ -2,7 +2,6 @@
 -- By cases on the leaf's answer. The two kinds of line are read so.
 use mathlib.Core.Path.{_≡_, refl, ap}
 use Prim.Native.Nat.{ℕ}
-use native.Mathlib.Omega.{arith}
 use Rattle.text.specs.declared.read.Next.{Next}
 use Rattle.text.specs.declared.read.Next.the-variants.{Spot, Nothing}
 use Rattle.text.specs.declared.read.Number.{Number}

@@ -1,13 +1,13 @@
 -- The lines of the rows, one after the other: one turn of writing them.
 -- Each opens the definition at the next row, once; the loop's proof cites nothing else.
 use mathlib.Core.Path.{_≡_, refl, sym, ap, _∙_}
-use mathlib.Core.List.{List, [], _∷_, _++_}
-use Prim.Native.Nat.{ℕ, zero, suc, _+_, _-_, _*_, _≤_, _<_}
+use mathlib.Core.List.{List, [], _++_}
+use Prim.Native.Nat.{ℕ, suc, _+_, _-_, _*_, _≤_, _<_}
 use native.Mathlib.Omega.{arith}
 use native.Mathlib.Nat.{mul-le-mul-right, mul-comm}
 use lib.ListN.{length, take, drop, length-append}
 use Rattle.text.specs.Words.{written, Written}
-use Rattle.text.proofs.Writing.{written-none, written-then}
+use Rattle.text.proofs.Writing.{written-then}
 use Rattle.job.specs.JobText.{rowLine, rowOf, rowLines}
 use Rattle.job.proofs.Rows.{row-fits}
 

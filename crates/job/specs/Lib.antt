@@ -1,3 +1,4 @@
 pub mod JobText
 pub mod Reading
 pub mod Writing
+pub mod Reader

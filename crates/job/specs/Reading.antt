@@ -1,14 +1,13 @@
 -- Reading a job (document 01, 'Job text' and 'Answers by number'): a text is judged line by line against the lines of the one text of a job.
 use mathlib.Core.Path.{_≡_}
 use mathlib.Core.Bool.{Bool, true, false, cond, _&&_}
-use mathlib.Core.List.{List, [], _∷_, _++_, map}
+use mathlib.Core.List.{List, [], _++_, map}
 use Prim.Native.Nat.{ℕ, zero, suc, _+_, _*_, _≤_}
 use lib.Dec.{leb, eqb}
 use lib.ListN.{length, take, drop}
 use Rattle.grid.specs.Limits.{side, allowanceLimit, rasterRoom, textRoom}
-use Rattle.grid.specs.Answers.{answer, refused, sizeOut, allowanceOut, textLong, badLine, rasterRoomShort}
+use Rattle.grid.specs.Answers.{answer, done, refused, sizeOut, allowanceOut, textLong, badLine, rasterRoomShort}
 use Rattle.grid.specs.Raster.{sizeFits}
-use Rattle.grid.specs.declared.answers.Answer.{Answer}
 use Rattle.grid.specs.declared.raster.Job.{Job}
 use Rattle.text.specs.declared.read.Next.{Next}
 use Rattle.text.specs.declared.read.Next.the-variants.{Spot, Nothing as Missing}
@@ -17,8 +16,8 @@ use Rattle.text.specs.Decimal.{run, value}
 use Rattle.job.specs.JobText.{numberLimit, shapeWord, shapeLine, rowHead, rowLine}
 use Rattle.job.specs.declared.lines.Shape.{Shape}
 use Rattle.job.specs.declared.lines.Shape.the-variants.{Line, Nothing}
-use Rattle.job.specs.declared.read.Lines.{Lines}
-use Rattle.job.specs.declared.read.Lines.the-variants.{Ruled, Bad}
+use Rattle.job.specs.declared.lines.Lines.{Lines}
+use Rattle.job.specs.declared.lines.Lines.the-variants.{Ruled, Bad}
 use Rattle.job.specs.declared.read.Judged.{Judged}
 use Rattle.job.specs.declared.read.Judged.the-variants.{Refused, Fine}
 use Rattle.job.specs.declared.read.ReadOutcome.{ReadOutcome}
@@ -96,21 +95,21 @@ judgeShape text (Line w h k next) =
     (unless (leb k allowanceLimit) (Refused (refused allowanceOut))
     (judgeRows (rowsFrom text w h 2 next) (Fine (record { width = w; height = h; allowance = k }) next)))
 
-unfoldable pub judgedFrom : List ℕ → ℕ → Judged
-judgedFrom text spot = judgeShape text (shapeAt text spot)
+unfoldable pub judgedLines : List ℕ → Judged
+judgedLines text = judgeShape text (shapeAt text 0)
 
 -- "Reading a job: 12, 10", and then the lines
 unfoldable pub judged : List ℕ → ℕ → Judged
 judged text room =
     unless (leb rasterRoom room) (Refused (refused rasterRoomShort))
     (unless (leb (length text) textRoom) (Refused (refused textLong))
-    (judgedFrom text 0))
+    (judgedLines text))
 
 -- the numbers and the place of each answer; "On a refusal .. a read job's width, height and allowance are returned as 0"
 abbrev pub readOutcome : Judged → ReadOutcome
 readOutcome (Refused a) = record { answer = a .number; «place_x» = a .x; «place_y» = a .y; width = 0; height = 0; allowance = 0 }
 readOutcome (Fine job spot) =
-    record { answer = 0; «place_x» = 0; «place_y» = 0; width = job .width; height = job .height; allowance = job .allowance }
+    record { answer = done .number; «place_x» = done .x; «place_y» = done .y; width = job .width; height = job .height; allowance = job .allowance }
 
 -- "and nothing is written"; on success the raster, and every byte past it as it was
 abbrev pub readRoom : List ℕ → List ℕ → Judged → List ℕ

@@ -5,9 +5,8 @@ use Prim.Native.Nat.{ℕ}
 use lib.Dec.{leb}
 use lib.ListN.{length}
 use Rattle.grid.specs.Limits.{allowanceLimit, textRoom}
-use Rattle.grid.specs.Answers.{answer, refused, sizeOut, rasterLength, textRoomShort, allowanceOut, badByte}
+use Rattle.grid.specs.Answers.{answer, done, refused, sizeOut, rasterLength, textRoomShort, allowanceOut, badByte}
 use Rattle.grid.specs.Raster.{sizeFits, lengthFits, badPlace}
-use Rattle.grid.specs.declared.answers.Answer.{Answer}
 use Rattle.grid.specs.declared.raster.Job.{Job}
 use Rattle.grid.specs.declared.raster.Place.{Place}
 use Rattle.grid.specs.declared.raster.Place.the-variants.{Nowhere, At}
@@ -38,7 +37,7 @@ textOf job raster = jobText (job .width) (job .height) (job .allowance) raster
 -- "On a refusal every count .. returned as 0"
 abbrev pub writeOutcome : List ℕ → Checked → WriteOutcome
 writeOutcome raster (Refused a) = record { answer = a .number; «place_x» = a .x; «place_y» = a .y; length = 0 }
-writeOutcome raster (Fine job) = record { answer = 0; «place_x» = 0; «place_y» = 0; length = length (textOf job raster) }
+writeOutcome raster (Fine job) = record { answer = done .number; «place_x» = done .x; «place_y» = done .y; length = length (textOf job raster) }
 
 -- "and nothing is written"; on success the text, and every byte past it as it was
 abbrev pub writtenRoom : List ℕ → List ℕ → Checked → List ℕ

@@ -1,11 +1,12 @@
 // The lines of a job's text: `shape` with its numbers, and one line for each row.
 ghost use mathlib.Core.Path.{_≡_};
-ghost use Prim.Native.Nat.{_<_};
+ghost use Prim.Native.Nat.{_≤_, _<_};
 ghost use lib.ListN.{length};
 ghost use Rattle.grid.specs.Limits.{side};
 ghost use Rattle.job.specs.JobText.{rowHead};
-ghost use Rattle.job.specs.Reading.{shapeAt, rowAt};
+ghost use Rattle.job.specs.Reading.{shapeAt, rowAt, rowsFrom};
 use grid::lines::Row;
+use grid::raster::Job;
 use text::glyphs::FEED;
 use text::glyphs::TAB;
 use text::read::Next;
@@ -28,6 +29,12 @@ pub enum Shape {
         next: usize,
     },
     Nothing,
+}
+
+// The lines of the rows: all as ruled, or the number of the first that is not.
+pub enum Lines {
+    Ruled,
+    Bad(usize),
 }
 
 pub fn read_shape(text: &[u8], spot: usize) -> Shape
@@ -77,6 +84,30 @@ pub fn read_row(text: &[u8], spot: usize, width: usize, row: Row) -> Next
         return Next::Nothing;
     };
     read_byte(text, end, FEED)
+}
+
+// The lines of all rows, from the top row down.
+pub fn judge_rows(text: &[u8], spot: usize, job: Job) -> Lines
+    requires { ⌜ job .height ≤ side ⌝ }
+    ensures { λ r. ⌜ r ≡ rowsFrom (now (text .entry)) (job .width) (job .height) 2 spot ⌝ }
+{
+    let width = job.width;
+    let mut passed: usize = 0;
+    let mut at = spot;
+    let mut rows = job.height;
+    while 0 < rows {
+        rows -= 1;
+        let Next::Spot(next) = read_row(text, at, width, Row(rows)) else {
+            return Lines::Bad(passed + 2);
+        };
+        passed += 1;
+        at = next;
+    }
+    if at == text.len() {
+        Lines::Ruled
+    } else {
+        Lines::Bad(passed + 2)
+    }
 }
 
 // How many bytes stand before a row's squares: the word, two tabs and the row's number.

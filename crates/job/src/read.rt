@@ -1,13 +1,12 @@
 // Reading a job: everything is judged before a byte is written.
 ghost use mathlib.Core.Path.{_≡_};
-ghost use Prim.Native.Nat.{_≤_};
-ghost use Rattle.grid.specs.Limits.{side};
 ghost use Rattle.text.specs.Words.{written};
-ghost use Rattle.job.specs.Reading.{rowsFrom, rasterFrom, judgedFrom, judged, readOutcome, Copies, ReadJob};
+ghost use Rattle.job.specs.Reading.{rasterFrom, judgedLines, judged, readOutcome, Copies, ReadJob};
+use crate::lines::Lines;
 use crate::lines::Shape;
-use crate::lines::read_row;
-use crate::lines::read_shape;
 use crate::lines::row_head;
+use crate::reader::rows_of;
+use crate::reader::shape_of;
 use grid::answers::ALLOWANCE_OUT;
 use grid::answers::Answer;
 use grid::answers::BAD_LINE;
@@ -21,7 +20,6 @@ use grid::limits::TEXT_ROOM;
 use grid::lines::Row;
 use grid::raster::Job;
 use grid::raster::size_fits;
-use text::read::Next;
 use text::write::put_squares;
 
 #[repr(C)]
@@ -40,44 +38,16 @@ pub enum Judged {
     Fine(Job, usize),
 }
 
-// The lines of the rows: all as ruled, or the number of the first that is not.
-pub enum Lines {
-    Ruled,
-    Bad(usize),
-}
-
-fn judge_rows(text: &[u8], spot: usize, job: Job) -> Lines
-    requires { ⌜ job .height ≤ side ⌝ }
-    ensures { λ r. ⌜ r ≡ rowsFrom (now (text .entry)) (job .width) (job .height) 2 spot ⌝ }
-{
-    let width = job.width;
-    let mut line: usize = 2;
-    let mut at = spot;
-    let mut rows = job.height;
-    while 0 < rows {
-        rows -= 1;
-        let Next::Spot(next) = read_row(text, at, width, Row(rows)) else {
-            return Lines::Bad(line);
-        };
-        line += 1;
-        at = next;
-    }
-    if at == text.len() {
-        Lines::Ruled
-    } else {
-        Lines::Bad(line)
-    }
-}
-
-pub fn judge_from(text: &[u8], spot: usize) -> Judged
-    ensures { λ r. ⌜ r ≡ judgedFrom (now (text .entry)) spot ⌝ }
+// The lines of a text, through the reader that holds it.
+fn judge_lines(text: &[u8]) -> Judged
+    ensures { λ r. ⌜ r ≡ judgedLines (now (text .entry)) ⌝ }
 {
     let Shape::Line {
         width,
         height,
         allowance,
         next,
-    } = read_shape(text, spot)
+    } = shape_of(text)
     else {
         return Judged::Refused(Answer::at(BAD_LINE, 1, 0));
     };
@@ -92,7 +62,7 @@ pub fn judge_from(text: &[u8], spot: usize) -> Judged
         height: height as usize,
         allowance: allowance as usize,
     };
-    match judge_rows(text, next, job) {
+    match rows_of(text, next, job) {
         Lines::Bad(line) => Judged::Refused(Answer::at(BAD_LINE, line as u64, 0)),
         Lines::Ruled => Judged::Fine(job, next),
     }
@@ -107,7 +77,7 @@ fn judge(text: &[u8], room: usize) -> Judged
     if TEXT_ROOM < text.len() {
         return Judged::Refused(Answer::refused(TEXT_LONG));
     }
-    judge_from(text, 0)
+    judge_lines(text)
 }
 
 // The squares of the rows' lines as raster bytes, from the top row down.

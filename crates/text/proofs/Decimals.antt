@@ -2,18 +2,17 @@
 -- By strong induction on the number; the bound on how deep `digits` goes never shows.
 -- The inverse of printing and reading stands on this.
 use mathlib.Core.Path.{_≡_, refl, sym, ap, _∙_}
-use mathlib.Core.Bool.{Bool, true, false, cond, not, _&&_}
+use mathlib.Core.Bool.{Bool, true, not}
 use mathlib.Core.List.{List, [], _∷_, _++_, append-assoc, append-nil}
 use mathlib.Core.Logic.{by-cases, _≢_}
 use Prim.Native.Nat.{ℕ, zero, suc, _+_, _-_, _*_, _/_, _%_, _≤_, _<_}
 use native.Mathlib.Omega.{arith}
-use native.Mathlib.Decide.{decLt, ℕ-discrete}
-use lib.Dec.{leb, ltb, eqb}
-use lib.ListN.{length, drop, length-append}
+use native.Mathlib.Decide.{decLt}
+use lib.Dec.{leb, eqb}
 use borrow.Author.Tests.{lt-ltb, le-ltb, le-leb, ne-eqb, leb-true, eqb-false, not-true}
 use Rattle.lists.specs.Lists.{all}
-use Rattle.lists.proofs.Truth.{bcase, never, and-left, and-right, and-both}
-use Rattle.text.specs.Decimal.{digit, isDigit, digits, decimal, run, value, plain}
+use Rattle.lists.proofs.Truth.{never, and-left, and-right, and-both}
+use Rattle.text.specs.Decimal.{digit, isDigit, digits, decimal, value, plain}
 
 digits-small : (deep n : ℕ) → n < 10 → digits (suc deep) n ≡ digit n ∷ []
 unfolding digits

@@ -2,20 +2,19 @@
 -- The digits at a spot are as many as there are; with no leading zero they are the digits of what they say.
 -- Every reader of a number and the round trips of jobs use the two theorems.
 use mathlib.Core.Path.{_≡_, refl, sym, ap, _∙_}
-use mathlib.Core.Bool.{Bool, true, false, cond, _&&_, false≢true}
+use mathlib.Core.Bool.{Bool, true, false, _&&_}
 use mathlib.Core.List.{List, [], _∷_, _++_}
-use Prim.Native.Nat.{ℕ, zero, suc, _+_, _-_, _*_, _≤_, _<_}
+use Prim.Native.Nat.{ℕ, _+_, _-_, _≤_}
 use native.Mathlib.Omega.{arith}
 use lib.Dec.{leb}
 use lib.ListN.{length, take, drop}
 use lib.Seq.{drop-drop, take-append-seam}
 use borrow.Author.Tests.{le-leb, leb-true}
 use Rattle.lists.specs.Lists.{all}
-use Rattle.lists.proofs.Truth.{bcase, never, and-left, and-right, and-both}
-use Rattle.text.specs.declared.read.Number.{Number}
-use Rattle.text.specs.declared.read.Number.the-variants.{Value, Nothing}
-use Rattle.text.specs.Words.{Written, written}
-use Rattle.text.specs.Decimal.{digit, isDigit, decimal, run, value, plain, number, numberAt}
+use Rattle.lists.proofs.Truth.{bcase, and-left, and-right, and-both}
+use Rattle.text.specs.declared.read.Number.the-variants.{Value}
+use Rattle.text.specs.Words.{Written}
+use Rattle.text.specs.Decimal.{isDigit, decimal, run, value, plain, number, numberAt}
 use Rattle.text.proofs.Writing.{from-written, after-written}
 use Rattle.text.proofs.Decimals.{value-decimal, all-decimal, plain-decimal, decimal-plain}
 

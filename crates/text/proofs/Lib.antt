@@ -4,3 +4,4 @@ pub mod Decimals
 pub mod Inverse
 pub mod Turns
 pub mod Passes
+pub mod Determined

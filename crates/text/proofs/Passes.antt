@@ -1,27 +1,25 @@
 -- A reader that passes over the bytes w, from a spot to the next: what each leaf's success says, and when it succeeds.
 -- Two passes in a row are one over both words, so a line's reader is a chain of these; a number ends where no digit follows.
 use mathlib.Core.Path.{_≡_, refl, sym, ap, _∙_}
-use mathlib.Core.Bool.{Bool, true, false, cond, _&&_}
+use mathlib.Core.Bool.{Bool, true, false, _&&_}
 use mathlib.Core.List.{List, [], _∷_, _++_, map, append-assoc}
-use mathlib.Core.Logic.{by-cases}
-use Prim.Native.Nat.{ℕ, zero, suc, _+_, _-_, _≤_, _<_}
+use Prim.Native.Nat.{ℕ, _+_, _≤_}
 use native.Mathlib.Omega.{arith}
-use native.Mathlib.Numerals.{add-one}
 use lib.Dec.{leb}
 use lib.ListN.{length, take, drop, length-append, length-drop, take-append-drop}
-use lib.Seq.{drop-drop, take-append-seam, take-at, length-take-le, drop-append-seam}
+use lib.Seq.{drop-drop, take-at, length-take-le, drop-append-seam}
 use borrow.Author.Tests.{le-leb, leb-true}
 use Rattle.lists.specs.Lists.{all}
-use Rattle.lists.proofs.Truth.{and-left, and-right, and-both}
+use Rattle.lists.proofs.Truth.{and-left, and-right}
 use Rattle.text.specs.declared.read.Next.{Next}
 use Rattle.text.specs.declared.read.Next.the-variants.{Spot, Nothing}
 use Rattle.text.specs.declared.read.Number.{Number}
-use Rattle.text.specs.declared.read.Number.the-variants.{Value, Nothing as NoNumber}
+use Rattle.text.specs.declared.read.Number.the-variants.{Value}
 use Rattle.text.specs.Words.{tab, stands, found, wordAt, glyph, square, isSquare, bodyAt}
-use Rattle.text.specs.Decimal.{isDigit, decimal, run, number, numberAt, field, fieldAt, thenNumber}
+use Rattle.text.specs.Decimal.{isDigit, decimal, run, numberAt, field, fieldAt, thenNumber}
 use Rattle.text.proofs.Stands.{stands-at, stands-front, glyphs-squares, all-squares}
 use Rattle.text.proofs.Decimals.{all-decimal}
-use Rattle.text.proofs.Inverse.{Stated, read-stated, stated-read, run-digits}
+use Rattle.text.proofs.Inverse.{read-stated, stated-read, run-digits}
 use Rattle.text.proofs.Turns.{length-map}
 
 pub record Passes (t : List ℕ) (i : ℕ) (w : List ℕ) (j : ℕ) : Type 0 where

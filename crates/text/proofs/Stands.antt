@@ -1,20 +1,19 @@
 -- What it means that a word stands in a text at a spot: the text from the spot on is the word and then the rest.
 -- Inductions on the word. Every reader of a line takes its line apart with these.
 use mathlib.Core.Path.{_≡_, refl, sym, ap, _∙_}
-use mathlib.Core.Bool.{Bool, true, false, cond, _&&_, _||_, false≢true}
-use mathlib.Core.List.{List, [], _∷_, _++_, map, append-assoc}
+use mathlib.Core.Bool.{Bool, true, false, _&&_, false≢true}
+use mathlib.Core.List.{List, [], _∷_, _++_, map}
 use mathlib.Core.Logic.{by-cases}
-use Prim.Native.Nat.{ℕ, zero, suc, _+_, _-_, _≤_, _<_}
+use Prim.Native.Nat.{ℕ, suc, _+_, _≤_, _<_}
 use native.Mathlib.Omega.{arith}
 use native.Mathlib.Decide.{ℕ-discrete}
 use native.Mathlib.Numerals.{add-one}
-use lib.Dec.{leb, ltb, eqb, leb·suc-suc}
+use lib.Dec.{leb, eqb, leb·suc-suc}
 use lib.ListN.{length, take, drop, getD, length-append, length-drop, drop-of-length-le}
-use lib.Seq.{drop-cons, drop-drop, drop-append-seam}
+use lib.Seq.{drop-cons, drop-drop}
 use borrow.Author.Tests.{eq-eqb, ne-eqb, eqb-true, le-leb, lt-leb, leb-true}
 use Rattle.lists.specs.Lists.{all}
-use Rattle.lists.proofs.Truth.{bcase, never, fails, and-left, and-right, and-both}
-use Rattle.text.specs.declared.read.Next.{Next}
+use Rattle.lists.proofs.Truth.{bcase, and-left, and-right, and-both}
 use Rattle.text.specs.declared.read.Next.the-variants.{Spot, Nothing}
 use Rattle.text.specs.Words.{copper, none, begins, stands, found, wordAt, glyph, square, isSquare, bodyAt}
 

@@ -1,7 +1,7 @@
 -- One turn of each leaf's loop: what was asked equals what is left to do, a byte further on.
 -- Each opens the list at the spot, or the number at its last digit, once; the functions' proofs cite nothing else.
 use mathlib.Core.Path.{_≡_, refl, sym, ap, _∙_}
-use mathlib.Core.Bool.{Bool, true, false, cond, not, _&&_}
+use mathlib.Core.Bool.{true, false, not}
 use mathlib.Core.Logic.{_≢_}
 use mathlib.Core.List.{List, [], _∷_, _++_, map}
 use Prim.Native.Nat.{ℕ, zero, suc, _+_, _-_, _*_, _/_, _%_, _≤_, _<_}
@@ -14,10 +14,9 @@ use borrow.Author.Tests.{le-leb, lt-leb, eq-eqb, ne-eqb}
 use Rattle.lists.proofs.Truth.{bcase}
 use Rattle.text.specs.declared.read.Next.{Next}
 use Rattle.text.specs.declared.read.Next.the-variants.{Spot, Nothing}
-use Rattle.text.specs.declared.read.Number.{Number}
 use Rattle.text.specs.declared.read.Number.the-variants.{Value, Nothing as NoNumber}
 use Rattle.text.specs.Words.{tab, wordAt, isSquare, bodyAt, written}
-use Rattle.text.specs.Decimal.{digit, isDigit, decimal, run, value, plain, number, readOn, digitsAt, numberAt, thenNumber, fieldAt}
+use Rattle.text.specs.Decimal.{digit, isDigit, decimal, run, value, plain, readOn, digitsAt, numberAt, thenNumber, fieldAt}
 use Rattle.text.proofs.Stands.{word-none, word-ended, word-other, word-same, body-none, body-ended, body-other, body-same}
 use Rattle.text.proofs.Writing.{written-none, written-next, written-last}
 use Rattle.text.proofs.Decimals.{decimal-small, decimal-more, by-tenths}

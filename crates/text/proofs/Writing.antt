@@ -1,12 +1,12 @@
 -- What a room holds after writings: one after the other is one writing of both, in either order; nothing else changes.
 -- Take and drop of lists put together. Every writer's loop and the reading back stand on these.
 use mathlib.Core.Path.{_≡_, refl, sym, ap, _∙_}
-use mathlib.Core.List.{List, [], _∷_, _++_, map, append-assoc, append-nil}
-use Prim.Native.Nat.{ℕ, zero, suc, _+_, _-_, _≤_, _<_, min}
+use mathlib.Core.List.{List, [], _∷_, _++_, append-assoc}
+use Prim.Native.Nat.{ℕ, suc, _+_, _≤_, _<_}
 use native.Mathlib.Omega.{arith}
 use native.Mathlib.Numerals.{add-one}
-use lib.ListN.{length, take, drop, getD, set, length-append, length-drop, length-take, length-set, take-append-drop}
-use lib.Seq.{drop-cons, drop-drop, drop-append-add, take-append-le, take-append-add, take-append-seam, length-take-le, drop-append-le, set-split, take-set-le, drop-set-lt, drop-at, take-at, take-take}
+use lib.ListN.{length, take, drop, set, length-append, length-drop, length-take, take-append-drop}
+use lib.Seq.{drop-drop, length-take-le, set-split, drop-at, take-at, take-take}
 use Rattle.text.specs.Words.{written, Written}
 
 open-written : (room : List ℕ) (spot : ℕ) (bytes : List ℕ) → written room spot bytes ≡ take spot room ++ (bytes ++ drop (spot + length bytes) room)

@@ -1,14 +1,14 @@
 -- Each leaf takes the reading one step further, or ends it: what was asked equals what is left to read.
 use borrow.Author.Needs.{needs}
 use borrow.Author.Tests.{eq-eqb, ne-eqb}
-use mathlib.Core.Path.{_≡_, sym, ap, _∙_, refl}
+use mathlib.Core.Path.{_≡_, sym, ap, _∙_}
 use mathlib.Core.Bool.{Bool, cond}
 use mathlib.Core.List.{List, [], _∷_}
 use Prim.Native.Nat.{ℕ}
 use denote.Ref.{now}
 use Rattle.text.specs.declared.read.Next.{Next}
 use Rattle.text.specs.declared.read.Next.the-variants.{Nothing}
-use Rattle.text.specs.Words.{tab, feed, wordAt, bodyAt}
+use Rattle.text.specs.Words.{tab, wordAt, bodyAt}
 use Rattle.text.specs.Decimal.{fieldAt}
 use Rattle.job.specs.JobText.{rowWord}
 use Rattle.job.specs.Reading.{rowAt}

@@ -1,6 +1,5 @@
 -- A row below the side has at most two digits, so that the sum fits.
 use borrow.Author.Needs.{needs}
-use mathlib.Core.Path.{_∙_}
 use native.Mathlib.Omega.{arith}
 use Rattle.job.proofs.Lengths.{count-places, places-most, length-head}
 use Rattle.job.proofs.lines.row_head.Statement.{statement}

@@ -1,5 +1,4 @@
 -- The invariant: what was to be copied equals what is left of it; the rows that are left stand as ruled, and the room holds them.
-use borrow.Author.Needs.{needs}
 use mathlib.Core.Path.{_≡_, sym, ap, _∙_, refl}
 use mathlib.Core.List.{List}
 use Prim.Native.Nat.{ℕ, _+_, _-_, _*_, _≤_}
@@ -9,7 +8,7 @@ use denote.Ref.{now}
 use Rattle.text.specs.Words.{written}
 use Rattle.job.specs.JobText.{rowHead}
 use Rattle.job.specs.Reading.{rowsFrom, rasterFrom}
-use Rattle.job.specs.declared.read.Lines.the-variants.{Ruled}
+use Rattle.job.specs.declared.lines.Lines.the-variants.{Ruled}
 use Rattle.job.proofs.Rows.{pastRow, ruled-turn, inside-turn, copy-turn, copy-done, row-fits, part-squares}
 use Rattle.job.proofs.read.copy_rows.Statement.{statement}
 use Rattle.job.proofs.read.copy_rows.Tie as tie

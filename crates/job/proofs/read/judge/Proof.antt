@@ -1,7 +1,6 @@
 -- The two checks before line 1, in their order.
 use borrow.Author.Needs.{needs}
 use mathlib.Core.Path.{sym, ap, _∙_}
-use denote.Ref.{now}
 use Rattle.job.specs.declared.read.Judged.the-variants.{Refused}
 use Rattle.job.proofs.Judging.{short-room, long-text, on-to-lines}
 use Rattle.job.proofs.read.judge.Statement.{statement}
@@ -14,7 +13,7 @@ returns-2 : tie.Need-returns-2
 returns-2 c = ap Refused (c .refused2 .ensures) ∙ sym (long-text _ _ (c .before .before .if1 .left) (c .before .if2 .taken))
 
 returns-3 : tie.Need-returns-3
-returns-3 c = c .judge-from .ensures ∙ sym (on-to-lines _ _ (c .before .before .if1 .left) (c .before .if2 .left))
+returns-3 c = c .judge-lines .ensures ∙ sym (on-to-lines _ _ (c .before .before .if1 .left) (c .before .if2 .left))
 
 pub judge-spec : {M : Type 1} → statement M
 judge-spec =

@@ -1,6 +1,6 @@
 -- The place that was found, or none, is that of `badPlace`.
 use borrow.Author.Needs.{needs}
-use mathlib.Core.Path.{_≡_, sym, ap, _∙_}
+use mathlib.Core.Path.{sym, ap, _∙_}
 use Rattle.grid.specs.declared.raster.Place.{Place}
 use Rattle.job.specs.Writing.{checkPlace}
 use Rattle.job.specs.declared.write.Checked.the-variants.{Refused}

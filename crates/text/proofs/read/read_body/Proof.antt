@@ -1,11 +1,10 @@
 -- The invariant: what was asked equals what is left of the width at the spot that was reached.
 use borrow.Author.Needs.{needs}
 use borrow.Author.Tests.{not-true, not-false}
-use mathlib.Core.Path.{_≡_, sym, _∙_, refl}
-use Prim.Native.Nat.{_≤_, _-_, _+_}
+use mathlib.Core.Path.{_≡_, sym, _∙_}
+use Prim.Native.Nat.{_≤_, _-_}
 use native.Mathlib.Omega.{arith}
 use native.Mathlib.Nat.{sub-zero}
-use lib.ListN.{length, drop}
 use denote.Ref.{now}
 use Rattle.text.specs.Words.{bodyAt}
 use Rattle.text.proofs.Turns.{body-done, body-short, body-differs, body-turn}

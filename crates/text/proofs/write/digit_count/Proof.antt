@@ -1,5 +1,5 @@
 -- The invariant: the digits counted and those of the rest are all digits, and one more.
-use mathlib.Core.Path.{_≡_, refl}
+use mathlib.Core.Path.{_≡_}
 use Prim.Native.Nat.{_≤_, _+_}
 use native.Mathlib.Omega.{arith}
 use lib.ListN.{length}

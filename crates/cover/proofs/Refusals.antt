@@ -17,27 +17,27 @@ use Rattle.grid.specs.declared.raster.Place.the-variants.{Nowhere, At}
 use Rattle.grid.specs.declared.lines.Column.{Column}
 use Rattle.grid.specs.declared.lines.Row.{Row}
 use Rattle.cover.specs.Cover.{Given, refusedAt, refuseIf, refuseFrom, answered, coverGives, Gives}
-use Rattle.cover.specs.Code.{outcomeOf, unless, unlessAt, sizesAnswer, rasterAnswer}
+use Rattle.cover.specs.Code.{outcomeOf, answerIf, answerFrom, sizesAnswer, rasterAnswer}
 use Rattle.cover.specs.declared.entry.Outcome.{Outcome}
 use Rattle.cover.proofs.Checks.{fits-side}
 
 -- one check
 module _ (b : Bool) (n : ℕ) (later : Answer) where
-  pub fails : b ≡ true → unless b n later ≡ refused n
-  unfolding unless
+  pub fails : b ≡ true → answerIf b n later ≡ refused n
+  unfolding answerIf
   fails e = rw e
 
-  pub holds : b ≡ false → unless b n later ≡ later
-  unfolding unless
+  pub holds : b ≡ false → answerIf b n later ≡ later
+  unfolding answerIf
   holds e = rw e
 
 module _ (p : Place) (n : ℕ) (later : Answer) where
-  pub fails-at : {c : Column} {r : Row} → p ≡ At c r → unlessAt p n later ≡ answer n (c .0) (r .0)
-  unfolding unlessAt
+  pub fails-at : {c : Column} {r : Row} → p ≡ At c r → answerFrom p n later ≡ answer n (c .0) (r .0)
+  unfolding answerFrom
   fails-at e = rw e
 
-  pub fails-nowhere : p ≡ Nowhere → unlessAt p n later ≡ later
-  unfolding unlessAt
+  pub fails-nowhere : p ≡ Nowhere → answerFrom p n later ≡ later
+  unfolding answerFrom
   fails-nowhere e = rw e
 
 -- an answer that refuses, or what comes after it
@@ -55,13 +55,13 @@ module _ (r : Answer) (f m : List ℕ) (later : Given) where
 
 -- one check of the code's is one of document 01's, before checks that are
 module _ (r : Answer) (f m : List ℕ) (later : Given) {x : Given} (n : ℕ) (number : eqb n 0 ≡ false) (rest : x ≡ orLater r f m later) where
-  check-if : (b : Bool) → refuseIf b n f m x ≡ orLater (unless b n r) f m later
-  unfolding unless orLater
+  check-if : (b : Bool) → refuseIf b n f m x ≡ orLater (answerIf b n r) f m later
+  unfolding answerIf orLater
   check-if true = rw number
   check-if false = rest
 
-  check-from : (p : Place) → refuseFrom p n f m x ≡ orLater (unlessAt p n r) f m later
-  unfolding unlessAt orLater
+  check-from : (p : Place) → refuseFrom p n f m x ≡ orLater (answerFrom p n r) f m later
+  unfolding answerFrom orLater
   check-from Nowhere = rest
   check-from (At c y) = rw number
 
@@ -96,8 +96,8 @@ pub record Passed (w h k n f m : ℕ) : Type 0 where
   pub mark-room : markRoom ≤ m
   pub allowance : k ≤ allowanceLimit
 
-passed : (b : Bool) (n : ℕ) (later : Answer) → eqb n 0 ≡ false → unless b n later .number ≡ 0 → (b ≡ false) × (later .number ≡ 0)
-unfolding unless
+passed : (b : Bool) (n : ℕ) (later : Answer) → eqb n 0 ≡ false → answerIf b n later .number ≡ 0 → (b ≡ false) × (later .number ≡ 0)
+unfolding answerIf
 passed true n later f e = absurd (never (eq-eqb n 0 e) f)
 passed false n later f e = (refl, e)
 

@@ -13,7 +13,7 @@ use Rattle.grid.specs.Limits.{side, flashRecord, markRecord, flashRoom, markRoo
 use Rattle.grid.specs.Squares.{Rectangle, Square}
 use Rattle.cover.specs.Flashes.{areaOfFlash, flashedArea}
 use Rattle.cover.specs.Records.{flashBytes, markBytes, written}
-use Rattle.cover.specs.Code.{Added, Written, MarksAdded, MarksWritten}
+use Rattle.cover.specs.Code.{Added, FlashesDone, MarksAdded, MarksDone}
 use Rattle.cover.specs.declared.flashes.Flashed.{Flashed}
 use Rattle.cover.proofs.Records.{flashes-length, marks-length}
 
@@ -74,7 +74,7 @@ module _ {qs : List Rectangle} {f f′ : List ℕ} {d r : Flashed} (A : Added qs
   pub added-length : length f′ ≡ length f
   added-length = ap length (A .room) ∙ length-sets f (d .count * flashRecord) (gather flashBytes qs)
 
-  pub all-written : d .count ≡ 0 → d .area ≡ 0 → length qs ≤ side → flashRoom ≤ length f → Written qs f r f′
+  pub all-written : d .count ≡ 0 → d .area ≡ 0 → length qs ≤ side → flashRoom ≤ length f → FlashesDone qs f r f′
   all-written z a u v = record {
     count = omega (arith, A .count);
     area = omega (arith, A .area);
@@ -102,11 +102,11 @@ module _ {ss : List Square} {m m′ : List ℕ} {n r : ℕ} (A : MarksAdded ss m
   pub marked-length : length m′ ≡ length m
   marked-length = ap length (A .room) ∙ length-sets m (n * markRecord) (gather markBytes ss)
 
-  pub all-marked : n ≡ 0 → length ss ≤ side → markRoom ≤ length m → MarksWritten ss m r m′
+  pub all-marked : n ≡ 0 → length ss ≤ side → markRoom ≤ length m → MarksDone ss m r m′
   all-marked z u v = record {
     counted = omega (arith, A .count);
     room = all-stored markBytes markRecord marks-length m n ss (omega arith) (omega arith) (A .room);
   }
 
-pub as-written : {ss ts : List Square} {m m′ : List ℕ} {r : ℕ} → ss ≡ ts → MarksWritten ss m r m′ → MarksWritten ts m r m′
-as-written {m = m} {m′ = m′} {r = r} e A = subst (λ z. MarksWritten z m r m′) e A
+pub as-written : {ss ts : List Square} {m m′ : List ℕ} {r : ℕ} → ss ≡ ts → MarksDone ss m r m′ → MarksDone ts m r m′
+as-written {m = m} {m′ = m′} {r = r} e A = subst (λ z. MarksDone z m r m′) e A

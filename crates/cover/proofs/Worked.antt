@@ -21,7 +21,7 @@ use Rattle.cover.specs.Flashes.{flash, flashes, flashedArea}
 use Rattle.cover.specs.Marks.{marks}
 use Rattle.cover.specs.Records.{flashesWritten, marksWritten}
 use Rattle.cover.specs.Cover.{answered}
-use Rattle.cover.specs.Code.{Written, MarksWritten}
+use Rattle.cover.specs.Code.{FlashesDone, MarksDone}
 use Rattle.cover.specs.declared.flashes.Flashed.{Flashed}
 use Rattle.cover.proofs.Starting.{starting-listed}
 use Rattle.cover.proofs.Covering.{flashes-short}
@@ -49,7 +49,7 @@ module _ (a : Area) (w h : ℕ) (fits : w ≤ side) where
 
     module _ {k n : ℕ} (size : n ≡ length (setOf w t)) where
       -- more flashes than the allowance
-      pub work-refused : {f m m′ : List ℕ} {r : ℕ} → k < n → MarksWritten (take (k + 1) (marks a w h)) m r m′
+      pub work-refused : {f m m′ : List ℕ} {r : ℕ} → k < n → MarksDone (take (k + 1) (marks a w h)) m r m′
           → record { outcome = record { answer = allowanceShort; «place_x» = 0; «place_y» = 0; flashes = 0; marks = r; copper = 0 }; flashesAfter = f; marksAfter = m′ }
           ≡ answered a w h k f m
       work-refused {f} {m} u A =
@@ -63,7 +63,7 @@ module _ (a : Area) (w h : ℕ) (fits : w ≤ side) where
           })
 
       -- flashes within the allowance
-      pub work-done : {f f′ m m′ : List ℕ} {r : ℕ} {d : Flashed} → n ≤ k → Written (map (flash a h) (setOf w t)) f d f′ → MarksWritten (take side (marks a w h)) m r m′
+      pub work-done : {f f′ m m′ : List ℕ} {r : ℕ} {d : Flashed} → n ≤ k → FlashesDone (map (flash a h) (setOf w t)) f d f′ → MarksDone (take side (marks a w h)) m r m′
           → record { outcome = record { answer = 0; «place_x» = 0; «place_y» = 0; flashes = d .count; marks = r; copper = d .area }; flashesAfter = f′; marksAfter = m′ }
           ≡ answered a w h k f m
       work-done {f} {m = m} u A B =

@@ -83,7 +83,7 @@ pub record Added (qs : List Rectangle) (f : List ℕ) (done r : Flashed) (f′ :
   pub room : f′ ≡ sets f (done .count * flashRecord) (gather flashBytes qs)
 
 -- flashes written: their number, the sum of their areas, and what the room that held f holds after it
-pub record Written (qs : List Rectangle) (f : List ℕ) (done : Flashed) (f′ : List ℕ) : Type 0 where
+pub record FlashesDone (qs : List Rectangle) (f : List ℕ) (done : Flashed) (f′ : List ℕ) : Type 0 where
   pub count : done .count ≡ length qs
   pub area : done .area ≡ flashedArea qs
   pub room : f′ ≡ flashesWritten qs f
@@ -119,7 +119,7 @@ pub record MarksAdded (ss : List Square) (m : List ℕ) (n r : ℕ) (m′ : List
   pub room : m′ ≡ sets m (n * markRecord) (gather markBytes ss)
 
 -- marks written: their number, and what the room that held m holds after it
-pub record MarksWritten (ss : List Square) (m : List ℕ) (count : ℕ) (m′ : List ℕ) : Type 0 where
+pub record MarksDone (ss : List Square) (m : List ℕ) (count : ℕ) (m′ : List ℕ) : Type 0 where
   pub counted : count ≡ length ss
   pub room : m′ ≡ marksWritten ss m
 
@@ -128,20 +128,20 @@ abbrev pub outcomeOf : Answer → Outcome
 outcomeOf r = record { answer = r .number; «place_x» = r .x; «place_y» = r .y; flashes = 0; marks = 0; copper = 0 }
 
 -- a refusal without place where the test holds, and one with the place where there is one; else the answer of the later checks
-unfoldable pub unless : Bool → ℕ → Answer → Answer
-unless b n later = cond b (refused n) later
+unfoldable pub answerIf : Bool → ℕ → Answer → Answer
+answerIf b n later = cond b (refused n) later
 
-unfoldable pub unlessAt : Place → ℕ → Answer → Answer
-unlessAt Nowhere n later = later
-unlessAt (At c r) n later = answer n (c .0) (r .0)
+unfoldable pub answerFrom : Place → ℕ → Answer → Answer
+answerFrom Nowhere n later = later
+answerFrom (At c r) n later = answer n (c .0) (r .0)
 
 -- the checks that need no look at the raster's bytes: width w, height h, allowance k, and the lengths of raster, flash room and mark room
 abbrev pub sizesAnswer : ℕ → ℕ → ℕ → ℕ → ℕ → ℕ → Answer
 sizesAnswer w h k n f m =
-    unless (not (sizeFits w h)) sizeOut
-    (unless (not (lengthFits w h n)) rasterLength
-    (unless (ltb f flashRoom) flashRoomShort (unless (ltb m markRoom) markRoomShort (unless (ltb allowanceLimit k) allowanceOut done))))
+    answerIf (not (sizeFits w h)) sizeOut
+    (answerIf (not (lengthFits w h n)) rasterLength
+    (answerIf (ltb f flashRoom) flashRoomShort (answerIf (ltb m markRoom) markRoomShort (answerIf (ltb allowanceLimit k) allowanceOut done))))
 
 -- the checks of the raster's bytes
 abbrev pub rasterAnswer : ℕ → ℕ → List ℕ → Answer
-rasterAnswer w h bytes = unlessAt (badPlace w bytes) badByte (unlessAt (brokenPlace (areaOf w h bytes) w h) brokenColumn done)
+rasterAnswer w h bytes = answerFrom (badPlace w bytes) badByte (answerFrom (brokenPlace (areaOf w h bytes) w h) brokenColumn done)

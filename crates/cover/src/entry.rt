@@ -10,7 +10,7 @@ ghost use Rattle.intervals.specs.Table.{tableOf};
 ghost use Rattle.cover.specs.Slices;
 ghost use Rattle.cover.specs.Marks;
 ghost use Rattle.cover.specs.Cover.{answered, Gives};
-ghost use Rattle.cover.specs.Code.{areaIn, outcomeOf, sizesAnswer, rasterAnswer, MarksWritten};
+ghost use Rattle.cover.specs.Code.{areaIn, outcomeOf, sizesAnswer, rasterAnswer, MarksDone};
 use crate::flashes::write_flashes;
 use crate::marks::note_marks;
 use crate::marks::write_marks;
@@ -132,7 +132,7 @@ fn mark_area(
 ) -> usize
     requires { ⌜ Sized job (now raster) ⌝ }
     requires { ⌜ (now set ≡ tableOf (Slices.starting (areaIn job (now raster)) (job .width) (job .height))) × (markRoom ≤ length (now room)) ⌝ }
-    ensures { λ r. ⌜ MarksWritten (take most (Marks.marks (areaIn job (now (raster .entry))) (job .width) (job .height))) (now (room .entry)) r (now (room .exit)) ⌝ }
+    ensures { λ r. ⌜ MarksDone (take most (Marks.marks (areaIn job (now (raster .entry))) (job .width) (job .height))) (now (room .entry)) r (now (room .exit)) ⌝ }
 {
     let mut rows = [0u8; SIDE];
     note_marks(job, raster, set, work, &mut rows);

@@ -8,7 +8,7 @@ ghost use Rattle.grid.specs.Limits.{side, lines, flashRecord, flashRoom};
 ghost use Rattle.grid.specs.Lines.{row, spanOf};
 ghost use Rattle.grid.specs.Raster.{Sized};
 ghost use Rattle.intervals.specs.Table.{Tabled, setOf};
-ghost use Rattle.cover.specs.Code.{areaIn, rectangleOf, flashesAt, Drawn, Ready, Added, Written};
+ghost use Rattle.cover.specs.Code.{areaIn, rectangleOf, flashesAt, Drawn, Ready, Added, FlashesDone};
 ghost use Rattle.cover.specs.Flashes.{flash, areaOfFlash};
 ghost use Rattle.cover.specs.Records.{flashBytes};
 use crate::slices::copper_along;
@@ -144,7 +144,7 @@ fn write_cell(
 pub fn write_flashes(job: Job, raster: &[u8], t: &Table, room: &mut [u8]) -> Flashed
     requires { ⌜ Sized job (now raster) ⌝ }
     requires { ⌜ Tabled (job .width) (now t) × (length (setOf (job .width) (now t)) ≤ side) × (flashRoom ≤ length (now room)) ⌝ }
-    ensures { λ r. ⌜ Written (map (flash (areaIn job (now (raster .entry))) (job .height)) (setOf (job .width) (now (t .entry)))) (now (room .entry)) r (now (room .exit)) ⌝ }
+    ensures { λ r. ⌜ FlashesDone (map (flash (areaIn job (now (raster .entry))) (job .height)) (setOf (job .width) (now (t .entry)))) (now (room .entry)) r (now (room .exit)) ⌝ }
 {
     let last = last_line(job);
     let mut done = Flashed { count: 0, area: 0 };

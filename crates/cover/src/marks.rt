@@ -11,7 +11,7 @@ ghost use Rattle.grid.specs.Raster.{Sized};
 ghost use Rattle.intervals.specs.Table.{Tabled, setOf, tableOf};
 ghost use Rattle.cover.specs.Slices.{markRow};
 ghost use Rattle.cover.specs.Flashes.{rowFound};
-ghost use Rattle.cover.specs.Code.{areaIn, squareOf, onceOf, notedIn, marksNoted, Turned, Noted, MarksAdded, MarksWritten};
+ghost use Rattle.cover.specs.Code.{areaIn, squareOf, onceOf, notedIn, marksNoted, Turned, Noted, MarksAdded, MarksDone};
 ghost use Rattle.cover.specs.Records.{markBytes};
 use crate::slices::Seen;
 use crate::slices::find;
@@ -135,7 +135,7 @@ fn write_mark(rows: &[u8], column: Column, most: usize, room: &mut [u8], n: usiz
 // The first marks by column, at most `most` of them.
 pub fn write_marks(rows: &[u8], last: Line, most: usize, room: &mut [u8]) -> usize
     requires { ⌜ (last .0 ≤ length (now rows)) × (last .0 ≤ side) × (markRoom ≤ length (now room)) ⌝ }
-    ensures { λ r. ⌜ MarksWritten (take most (marksNoted (last .0) (now (rows .entry)))) (now (room .entry)) r (now (room .exit)) ⌝ }
+    ensures { λ r. ⌜ MarksDone (take most (marksNoted (last .0) (now (rows .entry)))) (now (room .entry)) r (now (room .exit)) ⌝ }
 {
     let mut n = 0;
     for c in 0..last.0 {

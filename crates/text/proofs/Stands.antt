@@ -15,7 +15,7 @@ use borrow.Author.Tests.{eq-eqb, ne-eqb, eqb-true, le-leb, lt-leb, leb-true}
 use Rattle.lists.specs.Lists.{all}
 use Rattle.lists.proofs.Truth.{bcase, and-left, and-right, and-both}
 use Rattle.text.specs.declared.read.Next.the-variants.{Spot, Nothing}
-use Rattle.text.specs.Words.{copper, none, begins, stands, found, wordAt, glyph, square, isSquare, bodyAt}
+use Rattle.text.specs.Words.{copperGlyph, noneGlyph, begins, stands, found, wordAt, glyph, square, isSquare, bodyAt}
 
 begins-self : (w q : List ℕ) → begins w (w ++ q) ≡ true
 unfolding begins
@@ -115,9 +115,9 @@ body-same t i w h s =
 -- characters that are squares, and squares as characters
 pub glyph-square : (c : ℕ) → isSquare c ≡ true → glyph (square c) ≡ c
 glyph-square c s =
-    bcase (eqb c copper)
-    (λ u. let e = eqb-true c copper u in rw u (sym e))
-    (λ u. let e = eqb-true c none (rw u at s) in rw u (sym e))
+    bcase (eqb c copperGlyph)
+    (λ u. let e = eqb-true c copperGlyph u in rw u (sym e))
+    (λ u. let e = eqb-true c noneGlyph (rw u at s) in rw u (sym e))
 
 pub square-glyph : (b : ℕ) → b ≤ 1 → square (glyph b) ≡ b
 square-glyph b h =

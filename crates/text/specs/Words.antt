@@ -16,11 +16,11 @@ tab = 9
 abbrev pub feed : ℕ
 feed = 10
 
-abbrev pub copper : ℕ
-copper = 35
+abbrev pub copperGlyph : ℕ
+copperGlyph = 35
 
-abbrev pub none : ℕ
-none = 46
+abbrev pub noneGlyph : ℕ
+noneGlyph = 46
 
 -- the text begins with the word
 unfoldable pub begins : List ℕ → List ℕ → Bool
@@ -46,13 +46,13 @@ chosen key hit miss b = cond (eqb b key) hit miss
 
 -- a raster byte as a character, and a character as a raster byte
 abbrev pub glyph : ℕ → ℕ
-glyph = chosen 1 copper none
+glyph = chosen 1 copperGlyph noneGlyph
 
 abbrev pub square : ℕ → ℕ
-square = chosen copper 1 0
+square = chosen copperGlyph 1 0
 
 abbrev pub isSquare : ℕ → Bool
-isSquare c = eqb c copper || eqb c none
+isSquare c = eqb c copperGlyph || eqb c noneGlyph
 
 -- "width characters, `#` copper and `.` none"
 unfoldable pub bodyAt : List ℕ → ℕ → ℕ → Next

@@ -3,14 +3,14 @@ use mathlib.Core.Path.{_≡_, sym, _∙_}
 use borrow.Author.Needs.{needs}
 use Rattle.grid.specs.Answers.{done, brokenColumn}
 use Rattle.grid.specs.Raster.{brokenPlace}
-use Rattle.cover.specs.Code.{areaIn, unlessAt, rasterAnswer}
+use Rattle.cover.specs.Code.{areaIn, answerFrom, rasterAnswer}
 use Rattle.cover.proofs.Refusals.{fails-at, fails-nowhere}
 use Rattle.cover.proofs.entry.raster_checked.Statement.{statement}
 use Rattle.cover.proofs.entry.raster_checked.Tie as tie
 
 -- no byte is bad
 good : (c : tie.After-enum-told) → let g = c .before .before .before .before .args in
-    rasterAnswer (g .job .width) (g .job .height) (g .raster .now) ≡ unlessAt (brokenPlace (areaIn (g .job) (g .raster .now)) (g .job .width) (g .job .height)) brokenColumn done
+    rasterAnswer (g .job .width) (g .job .height) (g .raster .now) ≡ answerFrom (brokenPlace (areaIn (g .job) (g .raster .now)) (g .job .width) (g .job .height)) brokenColumn done
 good c = fails-nowhere _ _ _ (sym (c .before .before .bad-byte .ensures) ∙ c .enum-told .given .1)
 
 returns : tie.Need-returns

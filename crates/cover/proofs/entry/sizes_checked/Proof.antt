@@ -9,7 +9,7 @@ use lib.ListN.{length}
 use Rattle.grid.specs.Limits.{flashRoom, markRoom, allowanceLimit}
 use Rattle.grid.specs.Answers.{done, flashRoomShort, markRoomShort, allowanceOut}
 use Rattle.grid.specs.declared.answers.Answer.{Answer}
-use Rattle.cover.specs.Code.{unless, sizesAnswer}
+use Rattle.cover.specs.Code.{answerIf, sizesAnswer}
 use Rattle.cover.proofs.Refusals.{fails, holds}
 use Rattle.cover.proofs.entry.sizes_checked.Statement.{statement}
 use Rattle.cover.proofs.entry.sizes_checked.Tie as tie
@@ -20,7 +20,7 @@ negated e t = sym (ap not e) ∙ t
 
 -- what is left to check, where the first two passed
 abbrev rooms : ℕ → ℕ → ℕ → Answer
-rooms f m k = unless (ltb f flashRoom) flashRoomShort (unless (ltb m markRoom) markRoomShort (unless (ltb allowanceLimit k) allowanceOut done))
+rooms f m k = answerIf (ltb f flashRoom) flashRoomShort (answerIf (ltb m markRoom) markRoomShort (answerIf (ltb allowanceLimit k) allowanceOut done))
 
 fits : (c : tie.Else2) → let g = c .before .before .before .before .before .args in
     sizesAnswer (g .width) (g .height) (g .allowance) (length (g .raster .now)) (g .flash-room) (g .mark-room) ≡ rooms (g .flash-room) (g .mark-room) (g .allowance)

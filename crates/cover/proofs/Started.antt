@@ -12,12 +12,12 @@ use native.Mathlib.Decide.{decLt, ℕ-discrete}
 use lib.Dec.{ltb}
 use borrow.Author.Tests.{lt-ltb, le-ltb, le-leb}
 use Rattle.lists.specs.Lists.{any, upTo}
-use Rattle.lists.proofs.Truth.{bcase, never}
+use Rattle.lists.proofs.Truth.{bcase, never, and-both}
 use Rattle.lists.proofs.Keep.{keep-none}
 use Rattle.lists.proofs.Searches.{any-within, any-nowhere, down-within, down-missed}
-use Rattle.method.specs.Intervals.{Interval, same, member, every}
+use Rattle.method.specs.Intervals.{Interval, span, proper, inside, same, member, every}
 use Rattle.method.specs.Runs.{Listed}
-use Rattle.method.proofs.Lines.{same-path, path-same, lines-proper}
+use Rattle.method.proofs.Lines.{same-path, path-same, lines-proper, lines-inside}
 use Rattle.method.proofs.Listed.{member-select, select-same, select-listed}
 use Rattle.grid.specs.Limits.{side, lines}
 use Rattle.grid.specs.Squares.{Area}
@@ -78,14 +78,14 @@ module _ (a : Area) (w h : ℕ) where
         (ap (λ b. b && shown j)
         (passed (cellOf j) k (λ q. never (path-same (spanAt k) j (sym (ap spanAt q) ∙ span-cell j (omega arith))) t)))))
 
-    pub started-skip : (k : ℕ) → shown (spanAt k) ≡ false → startedTo a w h k ≡ startedTo a w h (k + 1)
+    pub started-skip : (k : ℕ) → ((j : Interval) → j .left < j .right → j .right ≤ w → j ≡ spanAt k → shown j ≡ false) → startedTo a w h k ≡ startedTo a w h (k + 1)
     unfolding startedTo
     started-skip k s =
         select-same w (λ j. ltb (cellOf j) k && shown j) (λ j. ltb (cellOf j) (k + 1) && shown j)
         (λ j l r.
         by-cases (ℕ-discrete (cellOf j) k)
         (λ q.
-        let e : shown j ≡ false = ap shown (sym (span-cell j (omega arith)) ∙ ap spanAt q) ∙ s in
+        let e : shown j ≡ false = s j l r (sym (span-cell j (omega arith)) ∙ ap spanAt q) in
         rw (e, and-false (ltb (cellOf j) k), and-false (ltb (cellOf j) (k + 1))))
         (λ q. ap (λ b. b && shown j) (passed (cellOf j) k q)))
 
@@ -105,7 +105,18 @@ module _ (a : Area) (w h : ℕ) where
           ∙ ap tableOf (started-put k (ap shown (sym f) ∙ row-shows i r))
 
       pub skip-started : {i : Interval} → i ≡ spanAt k → markRow a h i ≡ none → t ≡ tableOf (startedTo a w h (k + 1))
-      skip-started {i} f r = q ∙ ap tableOf (started-skip k (ap shown (sym f) ∙ no-row-shows i r))
+      skip-started {i} f r = q ∙ ap tableOf (started-skip k (λ j u v g. ap shown (g ∙ sym f) ∙ no-row-shows i r))
+
+      -- what is no interval over the lines is in no set
+      pub outside-started : {i : Interval} → i ≡ spanAt k → (proper i && inside (span 0 n) i) ≡ false → t ≡ tableOf (startedTo a w h (k + 1))
+      outside-started {i} f o =
+          q
+          ∙ ap tableOf
+          (started-skip k
+          (λ j u v g.
+          absurd
+          (never (and-both (proper j) (inside (span 0 n) j) (lines-proper j u) (lines-inside (span 0 n) j (omega arith) (omega arith)))
+          (ap (λ x. proper x && inside (span 0 n) x) (g ∙ sym f) ∙ o))))
 
     -- the table of the starting set
     module _ {t : List ℕ} (q : t ≡ tableOf (starting a w h)) where

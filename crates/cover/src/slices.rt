@@ -99,15 +99,23 @@ pub fn find(job: Job, raster: &[u8], i: Interval) -> Seen
     Seen::Never
 }
 
-// The interval of cell k, where some row shows it.
+// The interval of cell k, where it is one over the job's lines and some row shows it.
 fn put_seen(job: Job, raster: &[u8], t: &mut Table, k: usize)
     requires { ⌜ Sized job (now raster) ⌝ }
     requires { ⌜ now t ≡ tableOf (startedTo (areaIn job (now raster)) (job .width) (job .height) k) ⌝ }
     ensures { λ _. ⌜ now (t .exit) ≡ tableOf (startedTo (areaIn job (now (raster .entry))) (job .width) (job .height) (k + 1)) ⌝ }
 {
     let i = interval_at(k);
+    let last = last_line(job);
+    let all = Interval {
+        left: Line(0),
+        right: last,
+    };
+    if !all.contains(i) {
+        return;
+    }
     if let Seen::In(_) = find(job, raster, i) {
-        put(t, last_line(job), i);
+        put(t, last, i);
     }
 }
 

@@ -10,8 +10,7 @@ use lib.Dec.{eqb}
 use lib.ListN.{length, getD, length-map}
 use Rattle.lists.specs.Lists.{keep, count, first, gather, from, upTo}
 use Rattle.lists.proofs.Truth.{fails}
-use Rattle.lists.proofs.Keep.{keep-append, keep-none, kept, first-keep, count-keep, count-length}
-use Rattle.lists.proofs.Counting.{count-map}
+use Rattle.lists.proofs.Keep.{keep-append, keep-none, kept, first-keep, count-length}
 use Rattle.lists.proofs.Maps.{map-same, first-map, map-map, map-gather, from-shift}
 use Rattle.lists.proofs.Ranges.{from-in, from-append, keep-map, gather-same, keep-gather}
 use Rattle.method.specs.Intervals.{span, holds, beginningAt, member}
@@ -93,12 +92,6 @@ holdsAt t c k = isOn t k && holds c (spanAt k)
 module _ {n : ℕ} {t : List ℕ} (T : Tabled n t) where
   pub length-cells : length (setOf n t) ≡ count (isOn t) (upTo (n * lines))
   length-cells = ap length (set-cells T) ∙ length-map (keep (isOn t) (upTo (n * lines))) spanAt ∙ count-length (isOn t) (upTo (n * lines))
-
-  pub held-cells : (c : ℕ) → count (holds c) (setOf n t) ≡ count (holdsAt t c) (upTo (n * lines))
-  held-cells c =
-      ap (count (holds c)) (set-cells T)
-      ∙ count-map (holds c) spanAt (keep (isOn t) (upTo (n * lines)))
-      ∙ count-keep (isOn t) (λ k. holds c (spanAt k)) (upTo (n * lines))
 
   pub least-cells : (c : ℕ) → least c (setOf n t) ≡ Option·map spanAt (first (holdsAt t c) (upTo (n * lines)))
   unfolding least

@@ -1,5 +1,5 @@
 -- A pass over the cells 0 to m - 1, one after the other: what was counted so far and what is left from cell k on make up the whole; what has not been found
--- is still ahead. The list of what is left gives up its head. The loops of `is_empty`, `size`, `held` and `least` are such passes.
+-- is still ahead. The list of what is left gives up its head. The loops of `is_empty`, `size` and `least` are such passes.
 use mathlib.Core.Path.{_≡_, sym, ap, _∙_}
 use mathlib.Core.Bool.{Bool, true, false}
 use mathlib.Core.List.{[], _∷_}

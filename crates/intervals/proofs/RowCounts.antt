@@ -1,4 +1,4 @@
--- The counts of `dependent`: what a row adds to a column, right line by right line, and the rows of a bracket one after the other.
+-- The counts of `dependent` and `held`: what a row adds to a column, right line by right line, and the rows of a bracket one after the other.
 -- A row's count of a column is a box of one row; the rows before line l hold what is counted so far; after row l column l is done.
 use mathlib.Core.Path.{_≡_, refl, _∙_}
 use mathlib.Core.Bool.{Bool, true, false, _&&_}

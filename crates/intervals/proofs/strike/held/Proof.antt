@@ -1,48 +1,76 @@
--- `held` meets its contract: the cells that are set and hold the column are the set's intervals that hold it.
-use mathlib.Core.Path.{_≡_, sym, _∙_}
-use mathlib.Core.Bool.{true, false}
-use mathlib.Core.Logic.{⊎-elim}
-use Prim.Native.Nat.{_*_, _-_, _≤_}
+-- `held` meets its contract: after the rows before line l the count is that of the intervals in those rows that hold the column,
+-- and no interval that begins after the column's left line holds it.
+use mathlib.Core.Path.{_≡_, sym, ap, _∙_}
+use mathlib.Core.List.{List}
+use Prim.Native.Nat.{ℕ, suc, _+_, _-_, _≤_}
 use native.Mathlib.Omega.{arith}
-use lib.ListN.{length}
-use Rattle.grid.specs.Limits.{lines}
-use Rattle.intervals.specs.Table.{cells}
-use Rattle.intervals.proofs.TableLaws.{tabled-length}
-use Rattle.intervals.proofs.CellOrder.{holdsAt, held-cells}
-use Rattle.intervals.proofs.CellPasses.{Counted, counted-none, counted-all, counted-next}
+use Rattle.lists.specs.Lists.{count}
+use Rattle.method.specs.Intervals.{Interval as Span, holds}
+use Rattle.method.specs.Runs.{Listed}
+use Rattle.method.proofs.Sets.{has}
+use Rattle.method.proofs.Boxes.{K-no-lines}
+use Rattle.method.proofs.Counts.{holds-box, covered-box}
+use Rattle.intervals.specs.Table.{setOf}
+use Rattle.intervals.proofs.TableLaws.{set-listed}
+use Rattle.intervals.proofs.RowCounts.{soFar, so-bound, so-none, so-next, so-done, set-bound}
 use Rattle.intervals.proofs.strike.held.Statement.{statement}
 use Rattle.intervals.proofs.strike.held.Tie as tie
 
 abbrev Inv-loop : tie.InvT-loop
-Inv-loop t column n₀ k₀ k-end n k = (k ≤ k-end) × (k-end ≤ cells) × (length t ≡ cells) × (n ≤ k) × Counted (holdsAt t (column .0)) k-end n k
+Inv-loop t last column n₀ l₀ l-end n l = (l ≤ l-end) × (n ≡ soFar (setOf (last .0) t) 0 (last .0) l (column .0))
 
 abbrev μ-loop : tie.MeasureT-loop
-μ-loop t column n₀ k₀ k-end n k = k-end - k
+μ-loop t last column n₀ l₀ l-end n l = l-end - l
 
-loop-holds : tie.Need-loop-holds Inv-loop μ-loop
-loop-holds c =
-    let f = c .before .pre .fits in
-    let a = c .before .args in
-    (omega arith, omega arith, tabled-length (c .before .pre), omega arith, counted-none (holdsAt (a .t .now) (a .column .0)) (a .last .0 * lines))
+module _ (n : ℕ) {s : List Span} (listed : Listed n s) (c : ℕ) where
+  -- no interval holds a column beyond the last line
+  none-beyond : n ≤ c → 0 ≡ count (holds c) s
+  none-beyond h = sym (holds-box n s listed c ∙ K-no-lines (has s) 0 (suc c) c n h)
 
-loop-again : tie.Need-loop-again Inv-loop μ-loop
-loop-again c =
-    let at = c .before .before .before in
-    let a = at .before .before .args in
-    let i = at .loop .inv in
-    let next = counted-next (holdsAt (a .t .now) (a .column .0)) (a .last .0 * lines) (at .loop .n) (at .loop .k) (c .before .before .loop-test .taken) (i .4) in
-    let e = sym (c .before .holds-at .ensures) in
-    ⊎-elim
-    (λ w. (omega arith, i .1, i .2, omega arith, next true (e ∙ w .0 .taken) (c .if1 .n) (omega arith)))
-    (λ w. (omega arith, i .1, i .2, omega arith, next false (e ∙ w .0 .left) (c .if1 .n) (omega arith)))
-    (c .if1 .came)
+  -- every interval lies inside the whole width
+  all-rows : (l : ℕ) → l ≡ c + 1 → soFar s 0 n l c ≡ count (holds c) s
+  all-rows l e = ap (λ z. soFar s 0 n z c) e ∙ so-done s 0 n c ∙ covered-box n s listed 0 n c ∙ sym (holds-box n s listed c)
 
 returns : tie.Need-returns Inv-loop μ-loop
 returns c =
+    let a = c .before .before .before .args in
+    none-beyond (a .last .0) (set-listed (a .last .0) (a .t .now)) (a .column .0) (c .if1 .taken)
+
+loop-holds : tie.Need-loop-holds Inv-loop μ-loop
+loop-holds c =
+    let a = c .before .before .before .before .args in
+    (omega arith, sym (so-none (setOf (a .last .0) (a .t .now)) 0 (a .last .0) (a .column .0)))
+
+add-n : tie.Need-add-n Inv-loop μ-loop
+add-n c =
+    let at = c .before .before in
+    let a = at .before .before .before .before .before .args in
+    let s = setOf (a .last .0) (a .t .now) in
+    omega (
+      arith,
+      c .held-row .ensures,
+      so-next s 0 (a .last .0) (at .loop .l) (a .column .0) (omega arith),
+      so-bound s 0 (a .last .0) (at .loop .l + 1) (a .column .0),
+      set-bound (at .before .before .before .before .before .pre),
+    )
+
+loop-again : tie.Need-loop-again Inv-loop μ-loop
+loop-again c =
+    let at = c .before .before in
+    let a = at .before .before .before .before .before .args in (
+      omega arith,
+      omega (
+        arith,
+        c .held-row .ensures,
+        so-next (setOf (a .last .0) (a .t .now)) 0 (a .last .0) (at .loop .l) (a .column .0) (omega arith),
+      ),
+    )
+
+returns-2 : tie.Need-returns-2 Inv-loop μ-loop
+returns-2 c =
     let at = c .before in
-    let a = at .before .before .args in
-    counted-all (holdsAt (a .t .now) (a .column .0)) (a .last .0 * lines) (at .loop .n) (at .loop .k) (c .loop-test .left) (at .loop .inv .4)
-    ∙ sym (held-cells (at .before .before .pre) (a .column .0))
+    let a = at .before .before .before .before .before .args in
+    at .loop .inv .1 ∙ all-rows (a .last .0) (set-listed (a .last .0) (a .t .now)) (a .column .0) (at .loop .l) (omega arith)
 
 pub held-spec : {M : Type 1} → statement M
 held-spec =
@@ -50,11 +78,12 @@ held-spec =
     (tie.spec
     Inv-loop
     μ-loop
+    returns
     (λ c. omega arith)
     loop-holds
-    (λ c κs. omega arith)
-    (λ c. omega arith)
+    (λ c κs. (c .before .before .before .before .before .before .pre, omega arith))
+    add-n
     (λ c. omega arith)
     (λ c. omega arith)
     loop-again
-    returns)
+    returns-2)

@@ -150,4 +150,4 @@ module _ (o : Outcome) (numbers : Numbers o) where
 pub print-reached : (o : Outcome) × (f : List ℕ) × (m : List ℕ) × (o .flashes ≤ side) × (o .marks ≤ side) × (o .copper < 2 ^ 64) × (length (printed o f m) ≡ printRoom)
 unfolding printed line flashLines markLines flashesIn marksIn decimal digits
 print-reached =
-    (record { answer = 0; «place_x» = 0; «place_y» = 0; flashes = 64; marks = 64; copper = 2 ^ 64 - 1 }, replicate 256 255, replicate 128 255, omega arith, omega arith, omega arith, refl)
+    (record { answer = 0; «place_x» = 0; «place_y» = 0; flashes = side; marks = side; copper = 2 ^ 64 - 1 }, replicate (side * flashRecord) 255, replicate (side * markRecord) 255, omega arith, omega arith, omega arith, refl)

@@ -18,7 +18,7 @@ note-marks-requires : tie.Need-note-marks-requires
 note-marks-requires c κs =
     let s = c .before .before .before .before .before in
     let z = s .pre .0 in
-    (z, (starting-tabled _ _ _ (z .narrow) (s .pre .1 .0), omega (arith, z .narrow, length-replicate {A = ℕ} 64 0)))
+    (z, (starting-tabled _ _ _ (z .narrow) (s .pre .1 .0), omega (arith, z .narrow, length-replicate {A = ℕ} side 0)))
 
 write-marks-requires : tie.Need-write-marks-requires
 write-marks-requires c κs =
@@ -27,7 +27,7 @@ write-marks-requires c κs =
     let s = n .before .before .before .before .before .before in
     let w = ap number (l .last-line .ensures) in
     let k = n .note-marks .kept .1 .1 .1 .1 .0 in
-    (omega (arith, k, s .pre .0 .narrow, length-replicate {A = ℕ} 64 0), omega (arith, s .pre .0 .narrow), s .pre .1 .1)
+    (omega (arith, k, s .pre .0 .narrow, length-replicate {A = ℕ} side 0), omega (arith, s .pre .0 .narrow), s .pre .1 .1)
 
 returns : tie.Need-returns
 returns c =

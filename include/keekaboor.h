@@ -24,12 +24,15 @@
  *
  * prints `columns 0 to 2, rows 1 to 1` and `columns 1 to 1, rows 0 to 2`.
  *
+ * The library has code for the System V x86-64 calling convention (Linux and others): each struct below is returned by
+ * value as that convention says. tools/archives builds it; the README shows how to compile and link.
+ *
  * What holds for every function here:
  *
  * - It checks its own input: any numbers, lengths and bytes get an answer, and every call returns.
  *   It keeps nothing between calls, allocates nothing and may be called from several threads at once.
- * - A pointer is not null and has as many bytes behind it as the length says. What is only read and
- *   the lent rooms must not overlap each other. Neither is or can be checked.
+ * - A pointer has as many bytes behind it as the length says; it may be NULL where the length is 0. What is
+ *   only read and the lent rooms must not overlap each other. Neither is or can be checked.
  * - A refusal has an answer other than 0, its place where the list below names one (else 0, 0), and 0
  *   in every other field. It changes no byte of any lent room. KEEKABOOR_ALLOWANCE_SHORT alone also
  *   reports and writes marks.

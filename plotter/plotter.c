@@ -2,7 +2,7 @@
  * A small plotter: covers an area with the fewest flashes and prints them, as a control program would
  * send them to the lamp. It also shows a refusal, and an area's job text written and read back.
  */
-#include "../include/keekaboor.h"
+#include <keekaboor.h>
 
 #include <inttypes.h>
 #include <stdio.h>

@@ -1,9 +1,13 @@
-//! Finds the static libraries of the proved functions, which `rt staticlib` writes. Their code is for x86-64:
-//! there they are linked in; on another machine they are linked into a small program of its own, `far/far.c`,
-//! that the wrappers of `src/ffi.rs` talk to.
+//! Links the proved functions, for which it asks `tools/archives`: that script builds the library anew wherever the crates
+//! have changed, so none that is stale is ever linked. Beside them stands the cover written by hand in C (`hand/`).
+//! All of this is code for x86-64: there it is linked in; on another machine it is linked into a small program of its own,
+//! `far/far.c`, that the wrappers of `src/ffi.rs` talk to. The feature `far` has that program on x86-64 too, to try it.
 
 use std::path::{Path, PathBuf};
-use std::process::Command;
+use std::process::{Command, Stdio};
+
+const BY_HAND: [&str; 2] = ["hand/quick.c", "hand/plain.c"];
+const STRICT: [&str; 5] = ["-O2", "-std=c11", "-Wall", "-Wextra", "-Werror"];
 
 fn main() {
     println!("cargo:rerun-if-changed=build.rs");
@@ -12,46 +16,39 @@ fn main() {
     }
     let here = PathBuf::from(std::env::var_os("CARGO_MANIFEST_DIR").unwrap());
     let root = here.parent().unwrap();
-    let libraries = std::fs::read_to_string(here.join("libraries")).unwrap();
-    let folder = root.join("target/staticlib");
-    let direct = std::env::var("CARGO_CFG_TARGET_ARCH").unwrap() == "x86_64";
-    let mut archives = Vec::new();
-    rerun_when_changed(&[&here.join("libraries")]);
-    println!("cargo:rustc-link-search=native={}", folder.display());
-    for library in libraries.split_whitespace() {
-        let archive = folder.join(format!("lib{library}.a"));
-        rerun_when_changed(&[&archive]);
-        assert!(
-            archive.is_file(),
-            "{} is not there: run `rt staticlib {library}` at the repository's root, or cargo with --no-default-features",
-            archive.display()
-        );
-        if direct {
-            println!("cargo:rustc-link-lib=static={library}");
-        }
-        archives.push(archive);
+    let out = PathBuf::from(std::env::var_os("OUT_DIR").unwrap());
+    for part in ["crates", "crates.txt", "tools/archives", "tools/x86-64", "include", "rust/hand", "rust/far"] {
+        rerun_when_changed(&root.join(part));
     }
-    if !direct {
-        far_side(root, &here.join("far/far.c"), &archives);
+    let library = PathBuf::from(said(&mut Command::new(root.join("tools/archives"))).trim_end());
+    rerun_when_changed(&library);
+    let compiler = root.join("tools/x86-64");
+    let far =
+        std::env::var_os("CARGO_FEATURE_FAR").is_some() || std::env::var("CARGO_CFG_TARGET_ARCH").unwrap() != "x86_64";
+    if far {
+        let program = out.join("far");
+        let sources = BY_HAND.iter().chain(&["far/far.c"]).map(|file| here.join(file));
+        said(Command::new(&compiler).arg("cc").args(STRICT).args(sources).arg(&library).arg("-o").arg(&program));
+        let prefix = said(Command::new(&compiler).arg("prefix"));
+        println!("cargo:rustc-env=FAR_WORDS={}\u{1f}{}", prefix.replace('\n', "\u{1f}"), program.display());
+        return;
     }
+    for file in BY_HAND {
+        let object = out.join(Path::new(file).file_name().unwrap()).with_extension("o");
+        said(Command::new(&compiler).arg("cc").args(STRICT).arg("-c").arg(here.join(file)).arg("-o").arg(&object));
+        println!("cargo:rustc-link-arg={}", object.display());
+    }
+    println!("cargo:rustc-link-search=native={}", library.parent().unwrap().display());
+    println!("cargo:rustc-link-lib=static=keekaboor");
 }
 
-/// Builds the program that stands on the far side, and tells the wrappers how to run it.
-fn far_side(root: &Path, source: &Path, archives: &[PathBuf]) {
-    let header = root.join("include/keekaboor.h");
-    let script = root.join("tools/x86-64");
-    rerun_when_changed(&[source, &header, &script]);
-    let program = PathBuf::from(std::env::var_os("OUT_DIR").unwrap()).join("far");
-    let built = Command::new(&script).arg("cc").arg(&program).arg(source).args(archives).status();
-    assert!(built.map_or(false, |status| status.success()), "{} could not be built", source.display());
-    let prefix = Command::new(&script).arg("prefix").output().unwrap();
-    let prefix = String::from_utf8(prefix.stdout).unwrap();
-    println!("cargo:rustc-env=FAR_PREFIX={}", prefix.lines().collect::<Vec<_>>().join("\u{1f}"));
-    println!("cargo:rustc-env=FAR_PROGRAM={}", program.display());
+/// What a command that must succeed printed.
+fn said(command: &mut Command) -> String {
+    let output = command.stderr(Stdio::inherit()).output().unwrap_or_else(|error| panic!("{command:?}: {error}"));
+    assert!(output.status.success(), "{command:?} failed; cargo with --no-default-features needs none of this");
+    String::from_utf8(output.stdout).unwrap()
 }
 
-fn rerun_when_changed(files: &[&Path]) {
-    for file in files {
-        println!("cargo:rerun-if-changed={}", file.display());
-    }
+fn rerun_when_changed(path: &Path) {
+    println!("cargo:rerun-if-changed={}", path.display());
 }

@@ -1,20 +1,24 @@
 /*
  * The far side of the boundary, for tests on a machine that is not x86-64: answers calls that
- * src/ffi.rs sends over standard input, with the exported functions linked in.
+ * src/ffi.rs sends over standard input, with the exported functions and those written by hand linked in.
  *
  * A request is nine numbers (function, times, three arguments, the size of each of three buffers, and
  * how many guard bytes each has at either end), then the three buffers' bytes. The answer is the
- * outcome's six numbers, the nanoseconds that the calls took, and the three buffers as they are now.
+ * outcome's six numbers, the nanoseconds of the processor that the calls took, and the three buffers as they are now.
  */
 #define _POSIX_C_SOURCE 200809L
-#include "../../include/keekaboor.h"
+#include "../hand/hand.h"
 
 #include <stdlib.h>
 #include <string.h>
 #include <time.h>
 #include <unistd.h>
 
-enum { COVER = 0, READ_JOB = 1, WRITE_JOB = 2 };
+enum { READ_JOB, WRITE_JOB, COVERS };
+
+/* The covers, whose numbers follow. */
+static struct keekaboor_outcome (*const covers[])(uint64_t, uint64_t, uint64_t, const uint8_t *, size_t, uint8_t *, size_t,
+                                                  uint8_t *, size_t) = {keekaboor_cover, quick_cover, plain_cover};
 
 struct request {
     uint64_t function, times, number[3], size[3], guard;
@@ -46,20 +50,13 @@ static int put(const void *from, size_t size) {
 
 static uint64_t now(void) {
     struct timespec t;
-    clock_gettime(CLOCK_MONOTONIC, &t);
+    clock_gettime(CLOCK_PROCESS_CPUTIME_ID, &t);
     return (uint64_t)t.tv_sec * 1000000000u + (uint64_t)t.tv_nsec;
 }
 
 static void call(const struct request *r, uint8_t *const buffer[3], uint64_t outcome[6]) {
     const uint64_t *n = r->number, *size = r->size;
     switch (r->function) {
-    case COVER: {
-        struct keekaboor_outcome o =
-            keekaboor_cover(n[0], n[1], n[2], buffer[0], size[0], buffer[1], size[1], buffer[2], size[2]);
-        uint64_t all[6] = {o.answer, o.place_x, o.place_y, o.flashes, o.marks, o.copper};
-        memcpy(outcome, all, sizeof all);
-        break;
-    }
     case READ_JOB: {
         struct keekaboor_read_outcome o = keekaboor_read_job(buffer[0], size[0], buffer[1], size[1]);
         uint64_t all[6] = {o.answer, o.place_x, o.place_y, o.width, o.height, o.allowance};
@@ -73,8 +70,14 @@ static void call(const struct request *r, uint8_t *const buffer[3], uint64_t out
         memcpy(outcome, all, sizeof all);
         break;
     }
-    default:
-        exit(2);
+    default: {
+        if (r->function - COVERS >= sizeof covers / sizeof *covers)
+            exit(2);
+        struct keekaboor_outcome o = covers[r->function - COVERS](n[0], n[1], n[2], buffer[0], size[0], buffer[1],
+                                                                  size[1], buffer[2], size[2]);
+        uint64_t all[6] = {o.answer, o.place_x, o.place_y, o.flashes, o.marks, o.copper};
+        memcpy(outcome, all, sizeof all);
+    }
     }
 }
 

@@ -45,22 +45,35 @@ mod linked {
     use super::{Outcome, ReadOutcome, WriteOutcome};
     use std::time::Duration;
 
-    #[cfg(target_arch = "x86_64")]
+    #[cfg(all(target_arch = "x86_64", not(feature = "far")))]
     use super::direct::call;
-    #[cfg(not(target_arch = "x86_64"))]
+    #[cfg(any(feature = "far", not(target_arch = "x86_64")))]
     use super::far::call;
 
     /// Whether the proved functions run on this machine's processor, and not under an emulator.
     pub const NATIVE: bool = cfg!(target_arch = "x86_64");
 
-    pub fn cover(
+    /// The covers that are called alike: the exported ones, and those written by hand in C.
+    #[derive(Clone, Copy, Debug, PartialEq, Eq)]
+    pub enum Engine {
+        Exported,
+        Quick,
+        Plain,
+    }
+
+    pub fn cover(numbers: (u64, u64, u64), raster: &[u8], flash_room: &mut [u8], mark_room: &mut [u8]) -> Outcome {
+        cover_by(Engine::Exported, numbers, raster, flash_room, mark_room)
+    }
+
+    pub fn cover_by(
+        engine: Engine,
         (width, height, allowance): (u64, u64, u64),
         raster: &[u8],
         flash_room: &mut [u8],
         mark_room: &mut [u8],
     ) -> Outcome {
         let mut lent = [Lent::new(raster), Lent::new(flash_room), Lent::new(mark_room)];
-        let request = Request { function: Function::Cover, numbers: [width, height, allowance], times: 1 };
+        let request = Request { function: Function::Cover(engine), numbers: [width, height, allowance], times: 1 };
         let reply = call(&request, &mut lent);
         lent[0].unchanged("the raster", raster);
         lent[1].copy_back("the flash room", flash_room);
@@ -86,11 +99,11 @@ mod linked {
         reply.write_outcome()
     }
 
-    /// How long so many calls of the cover take, one after the other, in the same rooms.
-    pub fn time_cover(times: u64, numbers: (u64, u64, u64), raster: &[u8]) -> Duration {
+    /// How long so many calls of a cover take, one after the other, in the same rooms.
+    pub fn time_cover(engine: Engine, times: u64, numbers: (u64, u64, u64), raster: &[u8]) -> Duration {
         let mut lent = [Lent::new(raster), Lent::new(&[0; 256]), Lent::new(&[0; 128])];
         let numbers = [numbers.0, numbers.1, numbers.2];
-        call(&Request { function: Function::Cover, numbers, times }, &mut lent).time
+        call(&Request { function: Function::Cover(engine), numbers, times }, &mut lent).time
     }
 
     /// How long so many calls of the reader take, one after the other, in the same room.
@@ -101,9 +114,9 @@ mod linked {
 
     #[derive(Clone, Copy)]
     pub(super) enum Function {
-        Cover = 0,
-        ReadJob = 1,
-        WriteJob = 2,
+        Cover(Engine),
+        ReadJob,
+        WriteJob,
     }
 
     pub(super) struct Request {
@@ -112,7 +125,7 @@ mod linked {
         pub times: u64,
     }
 
-    /// An outcome's numbers in the order of its fields, and how long the calls took.
+    /// An outcome's numbers in the order of its fields, and the processor's time that the calls took.
     pub(super) struct Reply {
         pub numbers: [u64; 6],
         pub time: Duration,
@@ -176,24 +189,33 @@ mod linked {
 }
 
 /// On x86-64 the functions are linked in.
-#[cfg(all(feature = "linked", target_arch = "x86_64"))]
+#[cfg(all(feature = "linked", target_arch = "x86_64", not(feature = "far")))]
 mod direct {
-    use super::linked::{Function, Lent, Reply, Request, GUARD};
+    use super::linked::{Engine, Function, Lent, Reply, Request, GUARD};
     use super::{Outcome, ReadOutcome, WriteOutcome};
-    use std::time::Instant;
+    use crate::clock;
+
+    macro_rules! covers {
+        ($($name:ident)*) => {
+            extern "C" {
+                $(fn $name(
+                    width: u64,
+                    height: u64,
+                    allowance: u64,
+                    raster: *const u8,
+                    raster_len: usize,
+                    flash_room: *mut u8,
+                    flash_len: usize,
+                    mark_room: *mut u8,
+                    mark_len: usize,
+                ) -> Outcome;)*
+            }
+        };
+    }
+
+    covers!(keekaboor_cover quick_cover plain_cover);
 
     extern "C" {
-        fn keekaboor_cover(
-            width: u64,
-            height: u64,
-            allowance: u64,
-            raster: *const u8,
-            raster_len: usize,
-            flash_room: *mut u8,
-            flash_len: usize,
-            mark_room: *mut u8,
-            mark_len: usize,
-        ) -> Outcome;
         fn keekaboor_read_job(text: *const u8, text_len: usize, raster_room: *mut u8, raster_len: usize)
             -> ReadOutcome;
         fn keekaboor_write_job(
@@ -214,12 +236,17 @@ mod direct {
         let (a, b, c) = (a.whole[GUARD..].as_ptr(), b.whole[GUARD..].as_mut_ptr(), c.whole[GUARD..].as_mut_ptr());
         let [x, y, z] = request.numbers;
         let mut numbers = [0; 6];
-        let start = Instant::now();
+        let start = clock::now();
         for _ in 0..request.times {
             numbers = unsafe {
                 match request.function {
-                    Function::Cover => {
-                        let o = keekaboor_cover(x, y, z, a, len[0], b, len[1], c, len[2]);
+                    Function::Cover(engine) => {
+                        let cover = match engine {
+                            Engine::Exported => keekaboor_cover,
+                            Engine::Quick => quick_cover,
+                            Engine::Plain => plain_cover,
+                        };
+                        let o = cover(x, y, z, a, len[0], b, len[1], c, len[2]);
                         [o.answer, o.place_x, o.place_y, o.flashes, o.marks, o.copper]
                     }
                     Function::ReadJob => {
@@ -233,15 +260,15 @@ mod direct {
                 }
             };
         }
-        Reply { numbers, time: start.elapsed() }
+        Reply { numbers, time: clock::now() - start }
     }
 }
 
 /// On another machine they are linked into the program `far/far.c`, which runs under the kit's emulator:
 /// one for each thread, spoken to over its standard input and output.
-#[cfg(all(feature = "linked", not(target_arch = "x86_64")))]
+#[cfg(all(feature = "linked", any(feature = "far", not(target_arch = "x86_64"))))]
 mod far {
-    use super::linked::{Lent, Reply, Request, GUARD};
+    use super::linked::{Engine, Function, Lent, Reply, Request, GUARD};
     use std::cell::RefCell;
     use std::io::{Read, Write};
     use std::process::{Child, Command, Stdio};
@@ -249,9 +276,20 @@ mod far {
 
     struct Far(Child);
 
+    /// A function's number in `far/far.c`.
+    fn number(function: Function) -> u64 {
+        match function {
+            Function::ReadJob => 0,
+            Function::WriteJob => 1,
+            Function::Cover(Engine::Exported) => 2,
+            Function::Cover(Engine::Quick) => 3,
+            Function::Cover(Engine::Plain) => 4,
+        }
+    }
+
     impl Far {
         fn start() -> Far {
-            let mut words = env!("FAR_PREFIX").split('\u{1f}').chain([env!("FAR_PROGRAM")]);
+            let mut words = env!("FAR_WORDS").split('\u{1f}').filter(|word| !word.is_empty());
             let mut command = Command::new(words.next().unwrap());
             command.args(words).stdin(Stdio::piped()).stdout(Stdio::piped());
             Far(command.spawn().expect("the far side starts"))
@@ -261,7 +299,7 @@ mod far {
             let mut message = Vec::new();
             let [x, y, z] = request.numbers;
             let sizes = [lent[0].len(), lent[1].len(), lent[2].len()].map(|len| len as u64);
-            let head = [request.function as u64, request.times, x, y, z, sizes[0], sizes[1], sizes[2], GUARD as u64];
+            let head = [number(request.function), request.times, x, y, z, sizes[0], sizes[1], sizes[2], GUARD as u64];
             head.iter().for_each(|number| message.extend(number.to_le_bytes()));
             lent.iter().for_each(|part| message.extend(&part.whole));
             self.0.stdin.as_mut().unwrap().write_all(&message).expect("the far side listens");

@@ -2,6 +2,7 @@
 //! implementation of the rules and of the job text, and an exhaustive search on small areas.
 
 pub mod areas;
+pub mod clock;
 pub mod ffi;
 pub mod program;
 pub mod rules;

@@ -62,7 +62,8 @@ impl Program {
     pub fn build_server(&self, library: &Path) -> Result<()> {
         if self.emulated() {
             let source = root().join("rust/far/serve.c");
-            let built = Command::new(root().join("tools/x86-64")).arg("so").args([library, &source]).status()?;
+            let mut compiler = Command::new(root().join("tools/x86-64"));
+            let built = compiler.args(["cc", "-O2", "-shared", "-o"]).args([library, &source]).status()?;
             assert!(built.success(), "{} could not be built", source.display());
         }
         Ok(())

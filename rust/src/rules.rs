@@ -135,6 +135,11 @@ pub fn flashes(area: &Area) -> Vec<Flash> {
     list
 }
 
+/// The highest row with a slice of the interval.
+fn mark_row(area: &Area, of: Interval) -> usize {
+    (0..area.height).rev().find(|&row| slices(area, row).contains(&of)).expect("some row shows an interval of S")
+}
+
 /// Column and row of each mark, listed by column.
 pub fn marks(area: &Area) -> Vec<(usize, usize)> {
     let mut left = starting_set(area);
@@ -145,8 +150,7 @@ pub fn marks(area: &Area) -> Vec<(usize, usize)> {
         let column = (0..area.width).find(held_once).expect("a set without dependence has such a column");
         // the least left line, then the least right line: the first in the set's order
         let shown = *left.iter().find(|i| i.holds(column)).expect("some interval holds a column of the final set");
-        let row = (0..area.height).rev().find(|&row| slices(area, row).contains(&shown)).unwrap();
-        marks.push((column, row));
+        marks.push((column, mark_row(area, shown)));
         left.retain(|i| !i.holds(column));
     }
     marks.sort();

@@ -95,8 +95,8 @@ fn both_sides_of_the_limits_of_width_and_height() {
         Call { numbers: (n, 3, 64), ..full(3, 3) }.is_refused(1, 0, 0);
         Call { numbers: (3, n, 64), ..full(3, 3) }.is_refused(1, 0, 0);
     }
-    // a product of 9 once it is cut to 64 bits
-    Call { numbers: (3, 3u64.wrapping_add(1 << 63).wrapping_add(1 << 63), 64), ..full(3, 3) }.agrees_with_the_rules();
+    // a product of 0 once it is cut to 64 bits, as the raster's length is
+    Call { numbers: (1 << 32, 1 << 32, 64), raster: Vec::new(), ..full(3, 3) }.is_refused(1, 0, 0);
 }
 
 #[test]

@@ -2,7 +2,7 @@
  * How much stack the cover takes: the stack below this program's own frames is painted, the cover is
  * called, and what is no longer paint was used. Prints the bytes, on the worst of a few areas of 64 columns.
  */
-#include "../../include/keekaboor.h"
+#include <keekaboor.h>
 
 #include <stdio.h>
 #include <string.h>

@@ -1,10 +1,13 @@
-//! The exported cover beside the independent Rust implementation of the same plain method, and beside
-//! plain row slices; the exported reader beside the independent one. Ratios of one run, on this machine.
+//! The exported cover beside the independent implementation of the same plain method, beside the quickest form written by
+//! hand, and beside plain row slices; the exported reader beside the independent one. All in one run and as code for one
+//! processor: where the exported functions run under an emulator, so do the others, and the plain method is then in C.
+//! Prints tables in Markdown.
 
-use keekaboor_tests::areas::{area, Area, Job, Random, FAMILIES};
-use keekaboor_tests::{ffi, rules, text};
+use keekaboor_tests::areas::{area, Area, Family, Job, Random, FAMILIES};
+use keekaboor_tests::ffi::{self, Engine, NATIVE};
+use keekaboor_tests::{clock, rules, text};
 use std::sync::atomic::{AtomicUsize, Ordering::Relaxed};
-use std::time::{Duration, Instant};
+use std::time::Duration;
 
 /// What the timed calls give ends here, so that none is left out.
 static SINK: AtomicUsize = AtomicUsize::new(0);
@@ -12,9 +15,10 @@ static SINK: AtomicUsize = AtomicUsize::new(0);
 /// Areas of each family and width, each covered so often that the clock can tell.
 const AREAS: usize = 4;
 const WIDTHS: [usize; 4] = [8, 16, 32, 64];
-const ENOUGH: Duration = Duration::from_millis(60);
+const ENOUGH: Duration = Duration::from_millis(3);
+const PASSES: usize = 6;
 
-/// The time of one call, by doubling the number of calls until they take long enough.
+/// The processor's time of one call: doubles the number of calls until they take long enough.
 fn per_call(mut run: impl FnMut(u64) -> Duration) -> f64 {
     let mut times = 1;
     loop {
@@ -28,57 +32,98 @@ fn per_call(mut run: impl FnMut(u64) -> Duration) -> f64 {
 
 fn timed(mut call: impl FnMut() -> usize) -> impl FnMut(u64) -> Duration {
     move |times| {
-        let start = Instant::now();
+        let start = clock::now();
         for _ in 0..times {
             SINK.fetch_add(call(), Relaxed);
         }
-        start.elapsed()
+        clock::now() - start
+    }
+}
+
+fn of_plain(numbers: (u64, u64, u64), raster: &[u8]) -> f64 {
+    if NATIVE {
+        per_call(timed(|| rules::cover(numbers, raster, rules::FLASH_ROOM, rules::MARK_ROOM).flashes.len()))
+    } else {
+        of_engine(Engine::Plain, numbers, raster)
+    }
+}
+
+fn of_engine(engine: Engine, numbers: (u64, u64, u64), raster: &[u8]) -> f64 {
+    per_call(|times| ffi::time_cover(engine, times, numbers, raster))
+}
+
+/// One line of the table: its areas, and for each the best time yet of the cover, the plain method and the form by hand.
+struct Line {
+    family: Family,
+    areas: Vec<(Area, [f64; 3])>,
+}
+
+impl Line {
+    fn new(family: Family, width: usize) -> Line {
+        let mut random = Random::new(width as u64);
+        let areas = (0..AREAS).map(|_| (area(&mut random, family, width, width, 1, 0), [f64::INFINITY; 3])).collect();
+        Line { family, areas }
+    }
+
+    fn measure(&mut self) {
+        for (area, best) in &mut self.areas {
+            let numbers = (area.width as u64, area.height as u64, 64);
+            let now = [
+                of_engine(Engine::Exported, numbers, &area.raster),
+                of_plain(numbers, &area.raster),
+                of_engine(Engine::Quick, numbers, &area.raster),
+            ];
+            *best = [0, 1, 2].map(|column| best[column].min(now[column]));
+        }
+    }
+
+    /// Prints the line; gives the ratios of the cover to the plain method and to the form by hand.
+    fn print(&self) -> (f64, f64) {
+        let [cover, plain, quick] =
+            [0, 1, 2].map(|column| 1e6 / AREAS as f64 * self.areas.iter().map(|(_, best)| best[column]).sum::<f64>());
+        let over_rows = |area: &Area| (0..area.height).map(|row| rules::slices(area, row).len()).sum::<usize>();
+        let slices: usize = self.areas.iter().map(|(area, _)| over_rows(area)).sum();
+        let least: usize = self.areas.iter().map(|(area, _)| rules::flashes(area).len()).sum();
+        println!(
+            "| {} | {} | {cover:.2} | {plain:.2} | {quick:.2} | {:.2} | {:.0} | {slices} | {least} | {:.0}% |",
+            format!("{:?}", self.family).to_lowercase(),
+            self.areas[0].0.width,
+            cover / plain,
+            cover / quick,
+            100.0 * (slices - least) as f64 / slices as f64
+        );
+        (cover / plain, cover / quick)
     }
 }
 
 fn covers() {
-    println!(
-        "{:<10} {:>7} {:>12} {:>12} {:>6}   {:>10} {:>15} {:>6} {:>6}",
-        "family", "columns", "cover", "rules", "ratio", "row slices", "distinct slices", "least", "saved"
-    );
-    let mut worst: f64 = 0.0;
-    for family in FAMILIES {
-        for width in WIDTHS {
-            let mut random = Random::new(width as u64);
-            let areas: Vec<Area> = (0..AREAS).map(|_| area(&mut random, family, width, width, 1, 0)).collect();
-            let (mut cover, mut plain, mut slices, mut distinct, mut least) = (0.0, 0.0, 0, 0, 0);
-            for area in &areas {
-                let numbers = (width as u64, width as u64, 64);
-                cover += per_call(|times| ffi::time_cover(times, numbers, &area.raster));
-                plain += per_call(timed(|| rules::cover(numbers, &area.raster, 256, 128).flashes.len()));
-                slices += (0..width).map(|row| rules::slices(area, row).len()).sum::<usize>();
-                distinct += rules::starting_set(area).len();
-                least += rules::flashes(area).len();
-            }
-            let ratio = cover / plain;
-            worst = worst.max(ratio);
-            let micro = 1e6 / AREAS as f64;
-            println!(
-                "{:<10} {width:>7} {:>9.1} µs {:>9.1} µs {ratio:>6.2}   {slices:>10} {distinct:>15} {least:>6} {:>5.0}%",
-                format!("{family:?}").to_lowercase(),
-                cover * micro,
-                plain * micro,
-                100.0 * (slices - least) as f64 / slices as f64
-            );
-        }
+    let mut lines: Vec<Line> =
+        FAMILIES.iter().flat_map(|&family| WIDTHS.map(|width| Line::new(family, width))).collect();
+    (0..PASSES).for_each(|_| lines.iter_mut().for_each(Line::measure));
+    let plain = if NATIVE { "plain, Rust" } else { "plain, C" };
+    println!("| family | columns | cover, µs | {plain}, µs | by hand, C, µs | cover / plain | cover / by hand | row slices | least | saved |");
+    println!("|---|--:|--:|--:|--:|--:|--:|--:|--:|--:|");
+    let (mut to_plain, mut to_quick): (f64, f64) = (0.0, 0.0);
+    for line in &lines {
+        let (plain, quick) = line.print();
+        to_plain = to_plain.max(plain);
+        to_quick = to_quick.max(quick);
     }
-    println!("largest ratio of cover to rules: {worst:.2}");
+    println!();
+    println!("Largest ratio of cover to plain: {to_plain:.2}; of cover to by hand: {to_quick:.0}.");
 }
 
 fn readers() {
+    println!("| job of | exported reader, MB/s | independent, Rust, MB/s | ratio of times |");
+    println!("|--:|--:|--:|--:|");
     for width in [8, 64] {
         let job = Job { area: area(&mut Random::new(1), FAMILIES[0], width, width, 1, 0), allowance: 64 };
         let text = text::written(&job).into_bytes();
         let exported = per_call(|times| ffi::time_read_job(times, &text));
-        let independent = per_call(timed(|| text::read_job(&text, 4096).1.len()));
+        let independent = per_call(timed(|| text::read_job(&text, text::RASTER_ROOM).1.len()));
         let speed = |time: f64| text.len() as f64 / time / 1e6;
         println!(
-            "reading {} bytes: exported {:.1} MB/s, independent {:.1} MB/s, ratio of times {:.2}",
+            "| {} bytes | {:.0} | {:.0} | {:.2} |",
             text.len(),
             speed(exported),
             speed(independent),
@@ -87,17 +132,28 @@ fn readers() {
     }
 }
 
+/// The processor as the system names it.
+fn processor() -> String {
+    let all = std::fs::read_to_string("/proc/cpuinfo").unwrap_or_default();
+    let name = all.lines().find(|line| line.starts_with("model name")).and_then(|line| line.split(':').nth(1));
+    let count = all.lines().filter(|line| line.starts_with("processor")).count();
+    format!("{}, {count} processors, {}", name.map_or("unnamed processor", str::trim), std::env::consts::ARCH)
+}
+
 fn main() {
-    if !ffi::NATIVE {
-        println!("NOTE: the exported functions are x86-64 code and run under the kit's emulator on this machine, the");
-        println!("independent ones do not: times and ratios here say nothing of x86-64. The counts of flashes hold.");
-    }
-    println!("Mean of {AREAS} areas. Rooms were cleared once and not between calls; the independent cover makes its own lists.");
-    println!(
-        "Row slices: each row's runs by themselves. Distinct slices: each interval once, over all rows that show it."
-    );
+    let how = if NATIVE {
+        "natively"
+    } else {
+        "all columns as x86-64 code under the kit's emulator: ratios say something, times little"
+    };
+    println!("Ran on: {}; {how}. The C code was compiled with -O2.", processor());
+    println!("Each line: the mean of {AREAS} areas as high as wide, the best of {PASSES} passes of each, since what else the machine does");
+    println!("can only add to the processor's time. Rooms were cleared once and not between calls.");
+    println!("Row slices: each row's runs by themselves; least: the flashes that suffice (sums over the areas).");
     println!();
     covers();
-    println!();
-    readers();
+    if NATIVE {
+        println!();
+        readers();
+    }
 }

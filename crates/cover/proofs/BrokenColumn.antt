@@ -1,19 +1,19 @@
 -- Answer 8: where the checks before it pass, it is given exactly where a column is broken, with the place of the lowest gap of the leftmost broken column.
--- The search says nowhere exactly where no column is broken, and then the answer is 0 or 9.
+-- The search finds no square exactly where no column is broken, and then the answer is 0 or 9.
 use mathlib.Core.Path.{_≡_, refl, sym, subst, _∙_}
-use mathlib.Core.List.{List}
+use mathlib.Core.List.{List, [], _∷_}
 use mathlib.Core.Logic.{_↔_, ⊎-elim}
 use Prim.Native.Nat.{ℕ, _*_, _≤_, _<_}
 use native.Mathlib.Omega.{arith}
 use lib.ListN.{length, getD}
 use Rattle.grid.specs.Limits.{side, allowanceLimit, flashRoom, markRoom}
-use Rattle.grid.specs.Answers.{brokenColumn}
+use Rattle.lists.proofs.Truth.{ocase}
+use Rattle.grid.specs.Answers.{checkAt, orElse, firstRefusal, brokenColumn}
 use Rattle.grid.specs.Squares.{Unbroken, BrokenAt}
-use Rattle.grid.specs.Raster.{areaOf, brokenPlace}
+use Rattle.grid.specs.Raster.{areaOf, brokenSquare}
 use Rattle.grid.proofs.Areas.{area-in-grid}
-use Rattle.grid.proofs.Leftmost.{pcase}
 use Rattle.grid.proofs.Broken.{no-gap, raster-unbroken, raster-broken}
-use Rattle.cover.specs.Cover.{Given, Gives, refusedAt, refuseFrom, answered}
+use Rattle.cover.specs.Cover.{Given, Gives, refusedAt, orWork, answered}
 use Rattle.cover.specs.declared.entry.Outcome.{Outcome}
 use Rattle.cover.proofs.Checks.{checked}
 use Rattle.cover.proofs.Demand3.{answered-number}
@@ -34,11 +34,12 @@ module _ (w h k : ℕ) (raster f m : List ℕ) where
   refused-eight : (c y : ℕ) → BrokenAt (areaOf w h raster) c y → Eight w h raster (refusedAt brokenColumn c y f m)
   refused-eight c y b = ((λ t u. no-gap (areaOf w h raster) u c y (b .here), λ n. refl), λ t. b)
 
-  from-eight : Eight w h raster (refuseFrom (brokenPlace (areaOf w h raster) w h) brokenColumn f m (answered (areaOf w h raster) w h k f m))
+  from-eight : Eight w h raster (orWork (firstRefusal (checkAt (brokenSquare (areaOf w h raster) w h) brokenColumn ∷ [])) f m (answered (areaOf w h raster) w h k f m))
+  unfolding firstRefusal orElse orWork
   from-eight =
-      pcase (brokenPlace (areaOf w h raster) w h)
+      ocase (brokenSquare (areaOf w h raster) w h)
       (λ e. rw e (answered-eight (raster-unbroken w h raster .0 e)))
-      (λ c y e. rw e (refused-eight c y (raster-broken w h raster c y .0 e)))
+      (λ s e. rw e (refused-eight (s .column) (s .row) (raster-broken w h raster (s .column) (s .row) .0 e)))
 
   module _ (wide : (1 ≤ w) × (w ≤ side)) (high : (1 ≤ h) × (h ≤ side)) (full : length raster ≡ w * h)
       (bytes : (i : ℕ) → i < length raster → getD raster i 0 ≤ 1) (allowance : k ≤ allowanceLimit)

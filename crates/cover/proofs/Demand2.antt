@@ -2,18 +2,19 @@
 -- A success has passed every check, so the columns are unbroken and the flashes cover; the records are read back as they were written.
 use mathlib.Core.Path.{_≡_, refl, sym, ap, subst}
 use mathlib.Core.List.{List}
-use Prim.Native.Nat.{ℕ}
+use Prim.Native.Nat.{ℕ, suc}
 use native.Mathlib.Omega.{arith}
 use lib.Dec.{ltb}
-use lib.ListN.{length}
+use lib.ListN.{length, take}
 use Rattle.lists.proofs.Truth.{bcase}
+use Rattle.grid.specs.Answers.{allowanceShort}
 use Rattle.grid.specs.Squares.{Area, InGrid, Unbroken, Cover}
 use Rattle.grid.specs.Raster.{areaOf}
 use Rattle.grid.proofs.Areas.{area-in-grid}
 use Rattle.cover.specs.Flashes.{flashes, copperNumber}
 use Rattle.cover.specs.Marks.{marks}
 use Rattle.cover.specs.Cover.{Given, Gives, covered, answered}
-use Rattle.cover.specs.Demand2.{Sound}
+use Rattle.cover.specs.Demand2.{Sound, ShortRuled}
 use Rattle.cover.specs.declared.entry.Outcome.{Outcome}
 use Rattle.cover.proofs.Covering.{flashes-cover}
 use Rattle.cover.proofs.Records.{flashes-read, marks-read}
@@ -45,3 +46,19 @@ demand-2 w h k raster f m r f′ m′ gives =
     (outcomes w h k raster f m (λ g. g .outcome .answer ≡ 0 → Sound a w h g)
     (λ n x y l u e. absurd (omega arith))
     (λ q. answered-sound a w h k f m (area-in-grid w h raster) (q .unbroken)))
+
+-- the marks of answer 9
+answered-short : (a : Area) (w h k : ℕ) (f m : List ℕ) → answered a w h k f m .outcome .answer ≡ allowanceShort → ShortRuled a w h k (answered a w h k f m)
+answered-short a w h k f m =
+    bcase (ltb k (length (flashes a w h)))
+    (λ t. rw t (λ e. record { marks-ruled = marks-read (take (suc k) (marks a w h)) m }))
+    (λ t. rw t (λ e. absurd (omega arith)))
+
+pub demand-2-short : (w h k : ℕ) (raster f m : List ℕ) (r : Outcome) (f′ m′ : List ℕ) → Gives w h k raster f m r f′ m′ → r .answer ≡ allowanceShort
+    → ShortRuled (areaOf w h raster) w h k (record { outcome = r; flashesAfter = f′; marksAfter = m′ })
+demand-2-short w h k raster f m r f′ m′ gives =
+    let a = areaOf w h raster in
+    subst (λ (g : Given). g .outcome .answer ≡ allowanceShort → ShortRuled a w h k g) (sym gives)
+    (outcomes w h k raster f m (λ g. g .outcome .answer ≡ allowanceShort → ShortRuled a w h k g)
+    (λ n x y l u e. absurd (omega arith))
+    (λ q. answered-short a w h k f m))

@@ -13,6 +13,7 @@ use Rattle.cover.proofs.slices.starting
 use Rattle.cover.proofs.flashes.write_flashes
 use Rattle.cover.proofs.marks.note_marks
 use Rattle.cover.proofs.marks.write_marks
+use Rattle.cover.proofs.entry.cover_area
 use Rattle.cover.proofs.entry.keekaboor_cover
 
 pub last-line-determined : Determined last_line.Kinds.ps last_line.Kinds.r last_line.Reads.Pre last_line.Reads.Post
@@ -45,6 +46,13 @@ pub write-marks-determined : Determined write_marks.Kinds.ps write_marks.Kinds.r
 write-marks-determined κs a pre x y v w p q =
     let m = p .room ∙ sym (q .room) in
     (p .counted ∙ sym (q .counted), λ i. (tt, (tt, (tt, (m i, tt)))))
+
+pub cover-area-determined : Determined cover_area.Kinds.ps cover_area.Kinds.r cover_area.Reads.Pre cover_area.Reads.Post
+cover-area-determined κs a pre x y v w p q =
+    let e = p ∙ sym q in
+    let f = ap (λ (g : Given). g .flashesAfter) e in
+    let m = ap (λ (g : Given). g .marksAfter) e in
+    (ap (λ (g : Given). g .outcome) e, λ i. (tt, (tt, (f i, (m i, tt)))))
 
 pub cover-determined : Determined keekaboor_cover.Kinds.ps keekaboor_cover.Kinds.r keekaboor_cover.Reads.Pre keekaboor_cover.Reads.Post
 cover-determined κs a pre x y v w p q =

@@ -1,5 +1,6 @@
 -- From the rules to squares: slices, heights, the cover, the marks.
 pub mod SliceLaws
+pub mod Shown
 pub mod Starting
 pub mod Heights
 pub mod Covering
@@ -19,15 +20,13 @@ pub mod BrokenColumn
 pub mod RowsHold
 -- What the code's loops rest on.
 pub mod Along
-pub mod Searched
-pub mod Put
-pub mod Told
-pub mod Started
-pub mod Stored
-pub mod Drawn
-pub mod Cells
+pub mod Variants
+pub mod StartingByCell
+pub mod RecordsBehind
+pub mod FlashBounds
+pub mod FlashesByCell
 pub mod NotedMarks
-pub mod Turns
+pub mod MarkTurns
 pub mod ByColumn
 pub mod Refusals
 pub mod Worked

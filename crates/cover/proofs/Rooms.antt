@@ -1,5 +1,5 @@
 -- Of every outcome: both rooms keep their lengths, and every byte past the records stays as it was.
--- A refusal changes nothing; at most 64 records are written, and the rooms that pass the checks hold them.
+-- A refusal changes nothing; no more records are written than the largest grid has columns, and the rooms that pass the checks hold them.
 use mathlib.Core.Path.{refl, sym, subst}
 use mathlib.Core.List.{List}
 use Prim.Native.Nat.{ℕ, suc, _≤_}
@@ -11,30 +11,26 @@ use Rattle.lists.proofs.Truth.{bcase}
 use Rattle.grid.specs.Limits.{side, flashRoom, markRoom, flashRecord, markRecord}
 use Rattle.grid.specs.Squares.{Area, Rectangle, Square}
 use Rattle.grid.specs.Raster.{areaOf}
+use Rattle.grid.specs.Rooms.{Kept}
+use Rattle.grid.proofs.Writing.{kept}
 use Rattle.cover.specs.Flashes.{flashes}
 use Rattle.cover.specs.Marks.{marks}
-use Rattle.cover.specs.Records.{flashBytes, markBytes, flashesWritten, marksWritten, Kept}
+use Rattle.cover.specs.Records.{flashBytes, markBytes, flashesWritten, marksWritten}
 use Rattle.cover.specs.Cover.{Given, Gives, answered}
 use Rattle.cover.specs.declared.entry.Outcome.{Outcome}
 use Rattle.cover.proofs.Covering.{flashes-short}
 use Rattle.cover.proofs.MarkLaws.{marks-flashes}
-use Rattle.cover.proofs.Records.{flashes-length, marks-length, written-length, written-beyond}
+use Rattle.cover.proofs.Records.{flashes-length, marks-length}
 use Rattle.cover.proofs.Checks.{outcomes}
 
 untouched : (room : List ℕ) (size : ℕ) → Kept room room 0 size
 untouched room size = record { as-long = refl; beyond = λ i u. refl }
 
 flashes-kept : (qs : List Rectangle) (room : List ℕ) → length qs ≤ side → flashRoom ≤ length room → Kept room (flashesWritten qs room) (length qs) flashRecord
-flashes-kept qs room u v = record {
-  as-long = written-length (gather flashBytes qs) room (omega (arith, flashes-length qs));
-  beyond = λ i l. written-beyond (gather flashBytes qs) room i (omega (arith, flashes-length qs));
-}
+flashes-kept qs room u v = kept room (gather flashBytes qs) (length qs) flashRecord (flashes-length qs) (omega (arith, flashes-length qs))
 
 marks-kept : (ss : List Square) (room : List ℕ) → length ss ≤ side → markRoom ≤ length room → Kept room (marksWritten ss room) (length ss) markRecord
-marks-kept ss room u v = record {
-  as-long = written-length (gather markBytes ss) room (omega (arith, marks-length ss));
-  beyond = λ i l. written-beyond (gather markBytes ss) room i (omega (arith, marks-length ss));
-}
+marks-kept ss room u v = kept room (gather markBytes ss) (length ss) markRecord (marks-length ss) (omega (arith, marks-length ss))
 
 abbrev BothKept : List ℕ → List ℕ → Given → Type 0
 BothKept f m g = Kept f (g .flashesAfter) (g .outcome .flashes) flashRecord × Kept m (g .marksAfter) (g .outcome .marks) markRecord

@@ -1,45 +1,41 @@
 -- The starting set: listed, its members are exactly the intervals that some row shows, and each copper square lies in one that its own row shows.
 -- A selection by a test, read back; flashes, marks and demands use it.
 use mathlib.Core.Path.{_≡_, sym, _∙_}
-use mathlib.Core.Bool.{Bool, true, false, _&&_}
+use mathlib.Core.Bool.{true, false, _&&_}
 use mathlib.Core.Option.{some}
 use Prim.Native.Nat.{ℕ, _-_, _≤_, _<_}
 use native.Mathlib.Omega.{arith}
 use lib.Dec.{leb}
 use borrow.Author.Tests.{leb-true, le-leb}
-use Rattle.lists.specs.Lists.{any, first, upTo, down}
-use Rattle.lists.proofs.Truth.{ocase, never, fails, and-left, and-right, and-both}
-use Rattle.lists.proofs.Searches.{any-where, any-within, down-within, down-missed}
+use Rattle.lists.proofs.Truth.{fails, and-left, and-right, and-both}
 use Rattle.method.specs.Intervals.{Interval, proper, holds, inside, member}
 use Rattle.method.specs.Runs.{Listed}
 use Rattle.method.proofs.Lines.{lines-proper, lines-hold}
 use Rattle.method.proofs.Listed.{member-select, select-listed}
 use Rattle.grid.specs.Squares.{Area, InGrid}
-use Rattle.cover.specs.Slices.{copperAlong, slice, starting, markRow}
+use Rattle.cover.specs.Slices.{copperAlong, slice, shown, starting, markRow}
+use Rattle.cover.proofs.Shown.{shown-by, shown-row, highest-shows, shown-highest}
 use Rattle.cover.proofs.SliceLaws.{part-along, slice-lines, slice-along, slice-copper, slice-of}
 
 module _ (a : Area) (w h : ℕ) where
   pub starting-listed : Listed w (starting a w h)
   unfolding starting
-  starting-listed = select-listed w (λ i. any (λ y. slice a y i) (upTo h))
-
-  shown : Interval → Bool
-  shown i = any (λ y. slice a y i) (upTo h)
+  starting-listed = select-listed w (shown a h)
 
   pub starting-shown : (i : Interval) → member i (starting a w h) ≡ true → (y : ℕ) × (y < h) × (slice a y i ≡ true) × (i .right ≤ w)
-  unfolding starting shown
+  unfolding starting
   starting-shown i t =
-      let s = sym (member-select w shown i) ∙ t in
-      let r = any-where (λ y. slice a y i) 0 h (and-right (proper i && leb (i .right) w) (shown i) s) in
-      (r .0, omega arith, r .3, leb-true (i .right) w (and-right (proper i) (leb (i .right) w) (and-left (proper i && leb (i .right) w) (shown i) s)))
+      let s = sym (member-select w (shown a h) i) ∙ t in
+      let r = shown-row a h i (and-right (proper i && leb (i .right) w) (shown a h i) s) in
+      (r .0, r .1, r .2, leb-true (i .right) w (and-right (proper i) (leb (i .right) w) (and-left (proper i && leb (i .right) w) (shown a h i) s)))
 
   pub shown-starting : (i : Interval) (y : ℕ) → y < h → slice a y i ≡ true → i .right ≤ w → member i (starting a w h) ≡ true
-  unfolding starting shown
+  unfolding starting
   shown-starting i y u s r =
-      member-select w shown i
-      ∙ and-both (proper i && leb (i .right) w) (shown i)
+      member-select w (shown a h) i
+      ∙ and-both (proper i && leb (i .right) w) (shown a h i)
       (and-both (proper i) (leb (i .right) w) (lines-proper i (slice-lines a y i s)) (le-leb (i .right) w r))
-      (any-within (λ z. slice a z i) 0 h y (omega arith) (omega arith) s)
+      (shown-by a h i y u s)
 
   -- some row is copper along whatever lies inside a member
   pub inside-along : (j i : Interval) → member j (starting a w h) ≡ true → inside j i ≡ true → (y : ℕ) × (copperAlong a y i ≡ true)
@@ -47,12 +43,11 @@ module _ (a : Area) (w h : ℕ) where
 
   -- the row of a mark is one that shows its interval
   pub mark-row-shows : (i : Interval) → member i (starting a w h) ≡ true → (y : ℕ) × (markRow a h i ≡ some y) × (y < h) × (slice a y i ≡ true)
-  unfolding markRow
   mark-row-shows i t =
       let r = starting-shown i t in
-      ocase (first (λ y. slice a y i) (down h))
-      (λ e. absurd (never (r .2) (down-missed (λ y. slice a y i) h e (r .0) (r .1))))
-      (λ y e. let b = down-within (λ z. slice a z i) h e in (y, e, b .0, b .1))
+      let y = shown-highest a h i (shown-by a h i (r .0) (r .1) (r .2)) in
+      let s = highest-shows a h i (y .1) in
+      (y .0, y .1, s .0, s .1)
 
   module _ (grid : InGrid w h a) where
     pub bare-row : (y : ℕ) → a w y ≡ false

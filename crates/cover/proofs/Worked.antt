@@ -12,7 +12,6 @@ use Rattle.method.specs.Final.{final}
 use Rattle.method.proofs.Final.{final-listed}
 use Rattle.method.proofs.Marks.{final-short}
 use Rattle.grid.specs.Limits.{side}
-use Rattle.grid.specs.Answers.{allowanceShort}
 use Rattle.grid.specs.Squares.{Area}
 use Rattle.intervals.specs.Table.{setOf, tableOf, Tabled}
 use Rattle.intervals.proofs.TableLaws.{set-table, tabled}
@@ -21,7 +20,8 @@ use Rattle.cover.specs.Flashes.{flash, flashes, flashedArea}
 use Rattle.cover.specs.Marks.{marks}
 use Rattle.cover.specs.Records.{flashesWritten, marksWritten}
 use Rattle.cover.specs.Cover.{answered}
-use Rattle.cover.specs.Code.{FlashesDone, MarksDone}
+use Rattle.cover.specs.Code.{FlashesDone, MarksDone, shortOf, coveredOf}
+use Rattle.cover.specs.declared.entry.Outcome.{Outcome}
 use Rattle.cover.specs.declared.flashes.Flashed.{Flashed}
 use Rattle.cover.proofs.Starting.{starting-listed}
 use Rattle.cover.proofs.Covering.{flashes-short}
@@ -49,24 +49,19 @@ module _ (a : Area) (w h : ℕ) (fits : w ≤ side) where
 
     module _ {k n : ℕ} (size : n ≡ length (setOf w t)) where
       -- more flashes than the allowance
-      pub work-refused : {f m m′ : List ℕ} {r : ℕ} → k < n → MarksDone (take (k + 1) (marks a w h)) m r m′
-          → record { outcome = record { answer = allowanceShort; «place_x» = 0; «place_y» = 0; flashes = 0; marks = r; copper = 0 }; flashesAfter = f; marksAfter = m′ }
-          ≡ answered a w h k f m
-      work-refused {f} {m} u A =
+      pub work-refused : {f m m′ : List ℕ} {r : ℕ} {o : Outcome} → k < n → o ≡ shortOf r → MarksDone (take (k + 1) (marks a w h)) m r m′
+          → record { outcome = o; flashesAfter = f; marksAfter = m′ } ≡ answered a w h k f m
+      work-refused {f} {m} u e A =
           let c = A .counted ∙ ap (λ j. length (take j (marks a w h))) (add-one k) in
           let b = A .room ∙ ap (λ j. marksWritten (take j (marks a w h)) m) (add-one k) in
           rw (lt-ltb k (length (flashes a w h)) (omega (arith, work-size size)))
-          (λ i. record {
-            outcome = record { answer = allowanceShort; «place_x» = 0; «place_y» = 0; flashes = 0; marks = c i; copper = 0 };
-            flashesAfter = f;
-            marksAfter = b i;
-          })
+          (λ i. record { outcome = (e ∙ ap shortOf c) i; flashesAfter = f; marksAfter = b i })
 
       -- flashes within the allowance
-      pub work-done : {f f′ m m′ : List ℕ} {r : ℕ} {d : Flashed} → n ≤ k → FlashesDone (map (flash a h) (setOf w t)) f d f′ → MarksDone (take side (marks a w h)) m r m′
-          → record { outcome = record { answer = 0; «place_x» = 0; «place_y» = 0; flashes = d .count; marks = r; copper = d .area }; flashesAfter = f′; marksAfter = m′ }
-          ≡ answered a w h k f m
-      work-done {f} {m = m} u A B =
+      pub work-done : {f f′ m m′ : List ℕ} {r : ℕ} {d : Flashed} {o : Outcome} → n ≤ k → o ≡ coveredOf d r
+          → FlashesDone (map (flash a h) (setOf w t)) f d f′ → MarksDone (take side (marks a w h)) m r m′
+          → record { outcome = o; flashesAfter = f′; marksAfter = m′ } ≡ answered a w h k f m
+      work-done {f} {m = m} u e A B =
           let all = take-all side (marks a w h) (omega (arith, marks-flashes a w h, flashes-short a w h)) in
           let c = A .count ∙ ap length work-flashes in
           let o = A .area ∙ ap flashedArea work-flashes in
@@ -74,8 +69,4 @@ module _ (a : Area) (w h : ℕ) (fits : w ≤ side) where
           let l = B .counted ∙ ap length all in
           let y = B .room ∙ ap (λ ss. marksWritten ss m) all in
           rw (le-ltb k (length (flashes a w h)) (omega (arith, work-size size)))
-          (λ i. record {
-            outcome = record { answer = 0; «place_x» = 0; «place_y» = 0; flashes = c i; marks = l i; copper = o i };
-            flashesAfter = x i;
-            marksAfter = y i;
-          })
+          (λ i. record { outcome = (e ∙ (λ j. coveredOf (record { count = c j; area = o j }) (l j))) i; flashesAfter = x i; marksAfter = y i })

@@ -1,28 +1,25 @@
 -- What only the contracts of inner functions name: the code's values read as the rules' ones, and what a step leaves behind.
 -- The promises of `keekaboor_cover` stand in Cover.antt and name none of it.
 use mathlib.Core.Path.{_≡_}
-use mathlib.Core.Bool.{Bool, true, false, not, cond, _&&_}
+use mathlib.Core.Bool.{Bool, true, false, cond, _&&_}
 use mathlib.Core.List.{List, [], _∷_}
 use mathlib.Core.Option.{Option, none, some}
 use Prim.Native.Nat.{ℕ, _+_, _-_, _*_, _≤_, _<_}
-use lib.Dec.{eqb, ltb}
+use lib.Dec.{eqb, leb, ltb}
 use lib.ListN.{length, getD, set}
-use lib.Seq.{sets}
-use Rattle.lists.specs.Lists.{any, gather, upTo}
+use Rattle.lists.specs.Lists.{gather, upTo}
 use Rattle.method.specs.Intervals.{Interval, select}
 use Rattle.method.specs.Strike.{Marked, marked}
 use Rattle.grid.specs.Limits.{side, flashRecord, markRecord, flashRoom, markRoom, allowanceLimit}
-use Rattle.grid.specs.Answers.{answer, done, refused, sizeOut, rasterLength, flashRoomShort, markRoomShort, allowanceOut, badByte, brokenColumn}
+use Rattle.grid.specs.Answers.{check, checkAt, sizeOut, rasterLength, flashRoomShort, markRoomShort, allowanceOut, badByte, brokenColumn, allowanceShort}
 use Rattle.grid.specs.Squares.{Area, Rectangle, Square}
 use Rattle.grid.specs.Lines.{column, row}
-use Rattle.grid.specs.Raster.{areaOf, sizeFits, lengthFits, badPlace, brokenPlace}
+use Rattle.grid.specs.Raster.{areaOf, sizeFits, lengthFits, badSquare, brokenSquare}
+use Rattle.grid.specs.Rooms.{written}
 use Rattle.grid.specs.declared.lines.Mark.{Mark}
 use Rattle.grid.specs.declared.answers.Answer.{Answer}
-use Rattle.grid.specs.declared.raster.Job.{Job}
-use Rattle.grid.specs.declared.raster.Place.{Place}
-use Rattle.grid.specs.declared.raster.Place.the-variants.{Nowhere, At}
-use Rattle.intervals.specs.Table.{cellOf, spanAt, setOf, tableOf, Tabled}
-use Rattle.cover.specs.Slices.{slice}
+use Rattle.intervals.specs.Table.{cellOf, spanAt, onAt, setOf, tableOf, Tabled}
+use Rattle.cover.specs.Slices.{shown}
 use Rattle.cover.specs.Flashes.{flash, flashedArea}
 use Rattle.cover.specs.Marks.{mark}
 use Rattle.cover.specs.Records.{flashBytes, markBytes, flashesWritten, marksWritten}
@@ -33,10 +30,6 @@ use Rattle.cover.specs.declared.marks.Once.{Once}
 use Rattle.cover.specs.declared.marks.Once.the-variants.{Nowhere as NotOnce, In as Only}
 use Rattle.cover.specs.declared.flashes.Flash.{Flash}
 use Rattle.cover.specs.declared.flashes.Flashed.{Flashed}
-
--- the area of a job's raster
-abbrev pub areaIn : Job → List ℕ → Area
-areaIn job bytes = areaOf (job .width) (job .height) bytes
 
 -- a row that shows an interval, if one does
 abbrev pub seenOf : Option ℕ → Seen
@@ -50,7 +43,7 @@ onceOf (some c) = Only (column c)
 
 -- of the starting set, the intervals whose cell comes before cell k
 unfoldable pub startedTo : Area → ℕ → ℕ → ℕ → List Interval
-startedTo a w h k = select w (λ i. ltb (cellOf i) k && any (λ y. slice a y i) (upTo h))
+startedTo a w h k = select w (λ i. ltb (cellOf i) k && shown a h i)
 
 -- a flash as a rectangle, a mark as a square
 abbrev pub rectangleOf : Flash → Rectangle
@@ -66,9 +59,9 @@ pub record Drawn (q : Rectangle) : Type 0 where
   pub tall : q .bottom ≤ q .top
   pub low : q .top < side
 
--- the flash of cell k, where the table t holds its interval
-abbrev pub flashesAt : Area → ℕ → List ℕ → ℕ → List Rectangle
-flashesAt a h t k = cond (eqb (getD t k 0) 1) (flash a h (spanAt k) ∷ []) []
+-- the flash of cell k, where its interval is in the set
+abbrev pub flashesAt : Area → ℕ → List Interval → ℕ → List Rectangle
+flashesAt a h s k = cond (onAt s k) (flash a h (spanAt k) ∷ []) []
 
 -- room and numbers for the flashes qs besides those done
 pub record Ready (qs : List Rectangle) (done : Flashed) (f : List ℕ) : Type 0 where
@@ -80,7 +73,8 @@ pub record Ready (qs : List Rectangle) (done : Flashed) (f : List ℕ) : Type 0 
 pub record Added (qs : List Rectangle) (f : List ℕ) (done r : Flashed) (f′ : List ℕ) : Type 0 where
   pub count : r .count ≡ done .count + length qs
   pub area : r .area ≡ done .area + flashedArea qs
-  pub room : f′ ≡ sets f (done .count * flashRecord) (gather flashBytes qs)
+  pub room : f′ ≡ written f (done .count * flashRecord) (gather flashBytes qs)
+  pub as-long : length f′ ≡ length f
 
 -- flashes written: their number, the sum of their areas, and what the room that held f holds after it
 pub record FlashesDone (qs : List Rectangle) (f : List ℕ) (done : Flashed) (f′ : List ℕ) : Type 0 where
@@ -116,7 +110,8 @@ marksNoted w rows = gather (notedIn rows) (upTo w)
 -- the marks ss put behind the n marks written: their number, and the room's bytes
 pub record MarksAdded (ss : List Square) (m : List ℕ) (n r : ℕ) (m′ : List ℕ) : Type 0 where
   pub count : r ≡ n + length ss
-  pub room : m′ ≡ sets m (n * markRecord) (gather markBytes ss)
+  pub room : m′ ≡ written m (n * markRecord) (gather markBytes ss)
+  pub as-long : length m′ ≡ length m
 
 -- marks written: their number, and what the room that held m holds after it
 pub record MarksDone (ss : List Square) (m : List ℕ) (count : ℕ) (m′ : List ℕ) : Type 0 where
@@ -127,21 +122,23 @@ pub record MarksDone (ss : List Square) (m : List ℕ) (count : ℕ) (m′ : Lis
 abbrev pub outcomeOf : Answer → Outcome
 outcomeOf r = record { answer = r .number; «place_x» = r .x; «place_y» = r .y; flashes = 0; marks = 0; copper = 0 }
 
--- a refusal without place where the test holds, and one with the place where there is one; else the answer of the later checks
-unfoldable pub answerIf : Bool → ℕ → Answer → Answer
-answerIf b n later = cond b (refused n) later
+-- the two outcomes of the work
+abbrev pub shortOf : ℕ → Outcome
+shortOf n = record { answer = allowanceShort; «place_x» = 0; «place_y» = 0; flashes = 0; marks = n; copper = 0 }
 
-unfoldable pub answerFrom : Place → ℕ → Answer → Answer
-answerFrom Nowhere n later = later
-answerFrom (At c r) n later = answer n (c .0) (r .0)
+abbrev pub coveredOf : Flashed → ℕ → Outcome
+coveredOf done n = record { answer = 0; «place_x» = 0; «place_y» = 0; flashes = done .count; marks = n; copper = done .area }
 
--- the checks that need no look at the raster's bytes: width w, height h, allowance k, and the lengths of raster, flash room and mark room
-abbrev pub sizesAnswer : ℕ → ℕ → ℕ → ℕ → ℕ → ℕ → Answer
-sizesAnswer w h k n f m =
-    answerIf (not (sizeFits w h)) sizeOut
-    (answerIf (not (lengthFits w h n)) rasterLength
-    (answerIf (ltb f flashRoom) flashRoomShort (answerIf (ltb m markRoom) markRoomShort (answerIf (ltb allowanceLimit k) allowanceOut done))))
+-- the chain of checks in two parts: those that need no look at the raster's bytes, of width w, height h, allowance k and the lengths of raster, flash room
+-- and mark room; and those of the raster's bytes
+abbrev pub sizeChecks : ℕ → ℕ → ℕ → ℕ → ℕ → ℕ → List Answer
+sizeChecks w h k n f m =
+    check (sizeFits w h) sizeOut
+    ∷ check (lengthFits w h n) rasterLength
+    ∷ check (leb flashRoom f) flashRoomShort
+    ∷ check (leb markRoom m) markRoomShort
+    ∷ check (leb k allowanceLimit) allowanceOut
+    ∷ []
 
--- the checks of the raster's bytes
-abbrev pub rasterAnswer : ℕ → ℕ → List ℕ → Answer
-rasterAnswer w h bytes = answerFrom (badPlace w bytes) badByte (answerFrom (brokenPlace (areaOf w h bytes) w h) brokenColumn done)
+abbrev pub rasterChecks : ℕ → ℕ → List ℕ → List Answer
+rasterChecks w h bytes = checkAt (badSquare w bytes) badByte ∷ checkAt (brokenSquare (areaOf w h bytes) w h) brokenColumn ∷ []

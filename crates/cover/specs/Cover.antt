@@ -1,17 +1,16 @@
 -- The whole outcome of the cover: numbers, places, and each byte of both rooms ('Answers by number').
 -- Throughout, f and m are what the lent flash room and mark room hold before the call.
 use mathlib.Core.Path.{_≡_}
-use mathlib.Core.Bool.{Bool, not, cond}
-use mathlib.Core.List.{List}
+use mathlib.Core.Bool.{cond}
+use mathlib.Core.List.{List, [], _∷_}
 use Prim.Native.Nat.{ℕ, suc}
-use lib.Dec.{ltb}
+use lib.Dec.{leb, ltb, eqb}
 use lib.ListN.{length, take}
 use Rattle.grid.specs.Limits.{allowanceLimit, flashRoom, markRoom}
-use Rattle.grid.specs.Answers.{sizeOut, rasterLength, flashRoomShort, markRoomShort, allowanceOut, badByte, brokenColumn, allowanceShort}
+use Rattle.grid.specs.Answers.{check, checkAt, firstRefusal, sizeOut, rasterLength, flashRoomShort, markRoomShort, allowanceOut, badByte, brokenColumn, allowanceShort}
 use Rattle.grid.specs.Squares.{Area, Rectangle, Square}
-use Rattle.grid.specs.Raster.{sizeFits, lengthFits, areaOf, badPlace, brokenPlace}
-use Rattle.grid.specs.declared.raster.Place.{Place}
-use Rattle.grid.specs.declared.raster.Place.the-variants.{Nowhere, At}
+use Rattle.grid.specs.Raster.{sizeFits, lengthFits, areaOf, badSquare, brokenSquare}
+use Rattle.grid.specs.declared.answers.Answer.{Answer}
 use Rattle.cover.specs.Flashes.{flashes, copperNumber}
 use Rattle.cover.specs.Marks.{marks}
 use Rattle.cover.specs.Records.{flashesWritten, marksWritten}
@@ -47,15 +46,6 @@ covered qs ss f m = record {
   marksAfter = marksWritten ss m;
 }
 
--- a refusal without place where the test holds, else what comes after it in document 01's order
-abbrev pub refuseIf : Bool → ℕ → List ℕ → List ℕ → Given → Given
-refuseIf b n f m later = cond b (refusedAt n 0 0 f m) later
-
--- a refusal with the place, where there is one
-abbrev pub refuseFrom : Place → ℕ → List ℕ → List ℕ → Given → Given
-refuseFrom Nowhere n f m later = later
-refuseFrom (At c r) n f m later = refusedAt n (c .0) (r .0) f m
-
 -- "least number exceeds the allowance": 9 with "the first k + 1 marks of that list and no flash"; else the cover
 abbrev pub answered : Area → ℕ → ℕ → ℕ → List ℕ → List ℕ → Given
 answered a w h k f m =
@@ -63,17 +53,24 @@ answered a w h k f m =
     (short (take (suc k) (marks a w h)) f m)
     (covered (flashes a w h) (marks a w h) f m)
 
--- width w, height h, allowance k; "Cover: 1, 2, 3, 4, 6, 7, 8, 9."
+-- width w, height h, allowance k; "Cover: 1, 2, 3, 4, 6, 7, 8, 9.": the checks before 9
+abbrev pub coverChecks : ℕ → ℕ → ℕ → List ℕ → List ℕ → List ℕ → List Answer
+coverChecks w h k raster f m =
+    check (sizeFits w h) sizeOut
+    ∷ check (lengthFits w h (length raster)) rasterLength
+    ∷ check (leb flashRoom (length f)) flashRoomShort
+    ∷ check (leb markRoom (length m)) markRoomShort
+    ∷ check (leb k allowanceLimit) allowanceOut
+    ∷ checkAt (badSquare w raster) badByte
+    ∷ checkAt (brokenSquare (areaOf w h raster) w h) brokenColumn
+    ∷ []
+
+-- a refusal, or the work of what passed every check
+unfoldable pub orWork : Answer → List ℕ → List ℕ → Given → Given
+orWork a f m work = cond (eqb (a .number) 0) work (refusedAt (a .number) (a .x) (a .y) f m)
+
 unfoldable pub coverGives : ℕ → ℕ → ℕ → List ℕ → List ℕ → List ℕ → Given
-coverGives w h k raster f m =
-    refuseIf (not (sizeFits w h)) sizeOut f m
-    (refuseIf (not (lengthFits w h (length raster))) rasterLength f m
-    (refuseIf (ltb (length f) flashRoom) flashRoomShort f m
-    (refuseIf (ltb (length m) markRoom) markRoomShort f m
-    (refuseIf (ltb allowanceLimit k) allowanceOut f m
-    (refuseFrom (badPlace w raster) badByte f m
-    (refuseFrom (brokenPlace (areaOf w h raster) w h) brokenColumn f m
-    (answered (areaOf w h raster) w h k f m)))))))
+coverGives w h k raster f m = orWork (firstRefusal (coverChecks w h k raster f m)) f m (answered (areaOf w h raster) w h k f m)
 
 -- the contract of `keekaboor_cover`: outcome r, and rooms that hold f′ and m′ afterwards, are what the call gives
 abbrev pub Gives : ℕ → ℕ → ℕ → List ℕ → List ℕ → List ℕ → Outcome → List ℕ → List ℕ → Type 0

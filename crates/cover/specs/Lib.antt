@@ -6,5 +6,5 @@ pub mod Cover
 pub mod Demand1
 pub mod Demand2
 pub mod Demand3
-pub mod Rows
+pub mod HeldTo
 pub mod Code

@@ -24,10 +24,20 @@ copperAlong a y i = all (λ c. a c y) (columns i)
 unfoldable pub slice : Area → ℕ → Interval → Bool
 slice a y i = proper i && copperAlong a y i && endsLeft a y (i .left) && endsRight a y (i .right)
 
+-- some row shows the interval as a slice, of the rows 0 to h - 1; the lowest row that does, and the highest
+unfoldable pub shown : Area → ℕ → Interval → Bool
+shown a h i = any (λ y. slice a y i) (upTo h)
+
+unfoldable pub lowestShown : Area → ℕ → Interval → Option ℕ
+lowestShown a h i = first (λ y. slice a y i) (upTo h)
+
+unfoldable pub highestShown : Area → ℕ → Interval → Option ℕ
+highestShown a h i = first (λ y. slice a y i) (down h)
+
 -- "The starting set S holds each slice's interval once, however many rows show it": over w columns and h rows
 unfoldable pub starting : Area → ℕ → ℕ → List Interval
-starting a w h = select w (λ i. any (λ y. slice a y i) (upTo h))
+starting a w h = select w (shown a h)
 
 -- "the highest row with a slice of that interval"
-unfoldable pub markRow : Area → ℕ → Interval → Option ℕ
-markRow a h i = first (λ y. slice a y i) (down h)
+abbrev pub markRow : Area → ℕ → Interval → Option ℕ
+markRow = highestShown

@@ -2,16 +2,16 @@
 ghost use mathlib.Core.Path.{_≡_};
 ghost use Prim.Native.Nat.{_-_, _*_, _^_, _<_, _≤_};
 ghost use lib.ListN.{length, take};
-ghost use lib.Seq.{sets};
 ghost use Rattle.method.specs.Final.{final};
 ghost use Rattle.method.specs.Strike.{heldOnce};
 ghost use Rattle.grid.specs.Limits.{side, markRecord, markRoom};
 ghost use Rattle.grid.specs.Lines.{row, spanOf};
-ghost use Rattle.grid.specs.Raster.{Sized};
+ghost use Rattle.grid.specs.Code.{Sized, areaIn};
+ghost use Rattle.grid.specs.Rooms.{written};
 ghost use Rattle.intervals.specs.Table.{Tabled, setOf, tableOf};
 ghost use Rattle.cover.specs.Slices.{markRow};
 ghost use Rattle.cover.specs.Flashes.{rowFound};
-ghost use Rattle.cover.specs.Code.{areaIn, squareOf, onceOf, notedIn, marksNoted, Turned, Noted, MarksAdded, MarksDone};
+ghost use Rattle.cover.specs.Code.{squareOf, onceOf, notedIn, marksNoted, Turned, Noted, MarksAdded, MarksDone};
 ghost use Rattle.cover.specs.Records.{markBytes};
 use crate::slices::Seen;
 use crate::slices::find;
@@ -22,13 +22,14 @@ use grid::lines::Interval;
 use grid::lines::Line;
 use grid::lines::Mark;
 use grid::lines::Row;
-use grid::raster::Job;
+use grid::raster::Size;
+use grid::rooms::put_bytes;
 use intervals::Found;
 use intervals::Table;
+use intervals::column::held;
+use intervals::column::least;
+use intervals::column::strike;
 use intervals::final_set::final_set;
-use intervals::strike::held;
-use intervals::strike::least;
-use intervals::strike::strike;
 use intervals::table::copy;
 
 pub enum Once {
@@ -41,7 +42,8 @@ fn held_once(t: &Table, last: Line) -> Once
     requires { ⌜ Tabled (last .0) (now t) ⌝ }
     ensures { λ r. ⌜ r ≡ onceOf (heldOnce (last .0) (setOf (last .0) (now (t .entry)))) ⌝ }
 {
-    for c in 0..last.0 {
+    let end = last.column_after();
+    for c in 0..end.0 {
         if held(t, last, Column(c)) == 1 {
             return Once::In(Column(c));
         }
@@ -59,30 +61,30 @@ fn next_column(set: &Table, work: &mut Table, last: Line) -> Once
     held_once(work, last)
 }
 
-fn mark_row(job: Job, raster: &[u8], i: Interval) -> Row
-    requires { ⌜ Sized job (now raster) ⌝ }
-    ensures { λ r. ⌜ r ≡ row (rowFound (markRow (areaIn job (now (raster .entry))) (job .height) (spanOf i))) ⌝ }
+fn mark_row(size: Size, raster: &[u8], i: Interval) -> Row
+    requires { ⌜ Sized size (now raster) ⌝ }
+    ensures { λ r. ⌜ r ≡ row (rowFound (markRow (areaIn size (now (raster .entry))) (size .height) (spanOf i))) ⌝ }
 {
-    match find(job, raster, i) {
+    match find(size, raster, i) {
         Seen::In(shown) => shown.highest,
         Seen::Never => Row(0),
     }
 }
 
 // One mark is noted and its column struck from the set; or nothing is left, and this is told.
-fn note_mark(job: Job, raster: &[u8], set: &mut Table, work: &mut Table, rows: &mut [u8]) -> bool
-    requires { ⌜ Sized job (now raster) ⌝ }
-    requires { ⌜ Tabled (job .width) (now set) × (job .width ≤ length (now rows)) ⌝ }
-    ensures { λ r. ⌜ Turned (areaIn job (now (raster .entry))) (job .width) (job .height) (now (set .entry)) (now (rows .entry)) r (now (set .exit)) (now (work .exit)) (now (rows .exit)) ⌝ }
+fn note_mark(size: Size, raster: &[u8], set: &mut Table, work: &mut Table, rows: &mut [u8]) -> bool
+    requires { ⌜ Sized size (now raster) ⌝ }
+    requires { ⌜ Tabled (size .width) (now set) × (size .width ≤ length (now rows)) ⌝ }
+    ensures { λ r. ⌜ Turned (areaIn size (now (raster .entry))) (size .width) (size .height) (now (set .entry)) (now (rows .entry)) r (now (set .exit)) (now (work .exit)) (now (rows .exit)) ⌝ }
 {
-    let last = last_line(job);
+    let last = last_line(size);
     let Once::In(column) = next_column(set, work, last) else {
         return false;
     };
     let Found::At(i) = least(set, last, column) else {
         return false;
     };
-    let row = mark_row(job, raster, i);
+    let row = mark_row(size, raster, i);
     let c = column.0;
     rows[c] = row.0 as u8 + 1;
     strike(set, last, column);
@@ -90,22 +92,21 @@ fn note_mark(job: Job, raster: &[u8], set: &mut Table, work: &mut Table, rows: &
 }
 
 // The marks of the set, by column: one more than the row of the column's mark. Both tables are empty afterwards.
-pub fn note_marks(job: Job, raster: &[u8], set: &mut Table, work: &mut Table, rows: &mut [u8])
-    requires { ⌜ Sized job (now raster) ⌝ }
-    requires { ⌜ Tabled (job .width) (now set) × (job .width ≤ length (now rows)) ⌝ }
-    ensures { λ _. ⌜ Noted (areaIn job (now (raster .entry))) (job .width) (job .height) (setOf (job .width) (now (set .entry))) (now (rows .entry)) (now (set .exit)) (now (work .exit)) (now (rows .exit)) ⌝ }
+pub fn note_marks(size: Size, raster: &[u8], set: &mut Table, work: &mut Table, rows: &mut [u8])
+    requires { ⌜ Sized size (now raster) ⌝ }
+    requires { ⌜ Tabled (size .width) (now set) × (size .width ≤ length (now rows)) ⌝ }
+    ensures { λ _. ⌜ Noted (areaIn size (now (raster .entry))) (size .width) (size .height) (setOf (size .width) (now (set .entry))) (now (rows .entry)) (now (set .exit)) (now (work .exit)) (now (rows .exit)) ⌝ }
 {
-    while note_mark(job, raster, set, work, rows) {}
+    while note_mark(size, raster, set, work, rows) {}
 }
 
 // The n-th record of the room.
 fn put_mark(room: &mut [u8], n: usize, mark: Mark)
     requires { ⌜ (mark .column .0 < 2 ^ 8) × (mark .row .0 < 2 ^ 8) × (n < side) × (markRoom ≤ length (now room)) ⌝ }
-    ensures { λ _. ⌜ now (room .exit) ≡ sets (now (room .entry)) (n * markRecord) (markBytes (squareOf mark)) ⌝ }
+    ensures { λ _. ⌜ now (room .exit) ≡ written (now (room .entry)) (n * markRecord) (markBytes (squareOf mark)) ⌝ }
 {
-    let at = n * MARK_RECORD;
-    room[at] = mark.column.0 as u8;
-    room[at + 1] = mark.row.0 as u8;
+    let record = [mark.column.0 as u8, mark.row.0 as u8];
+    put_bytes(room, n * MARK_RECORD, &record);
 }
 
 // The mark that is noted for a column, behind the n written, if there are to be more.
@@ -137,8 +138,9 @@ pub fn write_marks(rows: &[u8], last: Line, most: usize, room: &mut [u8]) -> usi
     requires { ⌜ (last .0 ≤ length (now rows)) × (last .0 ≤ side) × (markRoom ≤ length (now room)) ⌝ }
     ensures { λ r. ⌜ MarksDone (take most (marksNoted (last .0) (now (rows .entry)))) (now (room .entry)) r (now (room .exit)) ⌝ }
 {
+    let end = last.column_after();
     let mut n = 0;
-    for c in 0..last.0 {
+    for c in 0..end.0 {
         n = write_mark(rows, Column(c), most, room, n);
     }
     n

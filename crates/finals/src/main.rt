@@ -4,16 +4,12 @@ ghost use Prim.Native.Nat.{_≤_, _<_};
 ghost use lib.ListN.{length};
 ghost use Rattle.grid.specs.Limits.{side};
 ghost use Rattle.intervals.specs.Table.{Tabled};
-use grid::limits::LINES;
 use grid::limits::SIDE;
 use grid::lines::Interval;
 use grid::lines::Line;
 use intervals::Table;
 use intervals::final_set::final_set;
-use intervals::table::empty;
-use intervals::table::has;
-use intervals::table::interval_at;
-use intervals::table::put;
+use intervals::table;
 use libc::STDOUT_FILENO;
 
 struct Number {
@@ -101,10 +97,9 @@ fn print_interval(i: Interval) {
 fn print(t: &Table, last: Line)
     requires { ⌜ Tabled (last .0) (now t) ⌝ }
 {
-    for k in 0..last.0 * LINES {
-        let i = interval_at(k);
-        if has(t, last, i) {
-            print_interval(i);
+    for k in 0..table::cells_to(last) {
+        if table::is_on(t, last, k) {
+            print_interval(table::interval_at(k));
         }
     }
 }
@@ -115,12 +110,12 @@ fn print_final(line: &[u8]) {
         return;
     }
     let last = Line(first.value);
-    let mut t = empty();
+    let mut t = table::empty();
     let mut at = first.next;
     while at < line.len() {
         let l = read_number(line, at);
         let r = read_number(line, l.next);
-        put(
+        table::put(
             &mut t,
             last,
             Interval {

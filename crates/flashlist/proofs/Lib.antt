@@ -2,3 +2,4 @@ pub mod Few
 pub mod Program
 pub mod Determined
 pub mod Plus
+pub mod MainTheorem

@@ -9,10 +9,11 @@ use mathlib.Core.Logic.{by-cases}
 use native.Mathlib.Decide.{decLe}
 use lib.ListN.{length, take, drop, length-append, length-take}
 use lib.Seq.{take-all}
-use Rattle.grid.specs.Limits.{side, flashRoom, markRoom, rasterRoom, textRoom}
+use Rattle.grid.specs.Limits.{side, flashRoom, markRoom, rasterRoom}
 use Rattle.grid.specs.declared.raster.Job.{Job}
-use Rattle.text.specs.Words.{written, Written}
-use Rattle.text.proofs.Writing.{through-written}
+use Rattle.grid.specs.Rooms.{written, Written}
+use Rattle.grid.proofs.Writing.{through-written}
+use Rattle.job.specs.JobText.{textRoom}
 use Rattle.job.specs.Reading.{judged, rasterFrom, readOutcome, ReadJob}
 use Rattle.job.specs.declared.read.Judged.{Judged}
 use Rattle.job.specs.declared.read.Judged.the-variants.{Refused, Fine}
@@ -64,8 +65,8 @@ module _ (text room after : List ℕ) (r : ReadOutcome) (long : length room ≡ 
   fine-ready : (job : Job) (spot : ℕ) → ReadDone text room r after job spot → Ready text (readOutcome (Fine job spot)) after
   unfolding programText
   fine-ready job spot d =
-      let w : ℕ = job .width in
-      let h : ℕ = job .height in
+      let w : ℕ = job .size .width in
+      let h : ℕ = job .size .height in
       let raster : List ℕ = rasterFrom text w h spot in
       let j = judged-fine text (length room) (d .found) in
       let fits : w * h ≤ side * side = mul-le-mul (j .sized .narrow) (j .sized .low) in

@@ -3,7 +3,7 @@ use mathlib.Core.List.{List, []}
 use Prim.Native.Nat.{ℕ}
 use lib.ListN.{replicate}
 use Rattle.grid.specs.Limits.{flashRoom, markRoom, rasterRoom}
-use Rattle.text.specs.Words.{Written}
+use Rattle.grid.specs.Rooms.{Written}
 use Rattle.job.specs.Reading.{judged, rasterFrom}
 use Rattle.job.specs.declared.read.Judged.{Judged}
 use Rattle.job.specs.declared.read.Judged.the-variants.{Refused, Fine}
@@ -23,7 +23,7 @@ refusalText n x y = printedGiven (refusedAt n x y [] [])
 
 abbrev pub judgedText : List ℕ → Judged → List ℕ
 judgedText text (Refused a) = refusalText (a .number) (a .x) (a .y)
-judgedText text (Fine job spot) = coverText (job .width) (job .height) (job .allowance) (rasterFrom text (job .width) (job .height) spot)
+judgedText text (Fine job spot) = coverText (job .size .width) (job .size .height) (job .allowance) (rasterFrom text (job .size .width) (job .size .height) spot)
 
 unfoldable pub programText : List ℕ → List ℕ
 programText text = judgedText text (judged text rasterRoom)

@@ -1,7 +1,7 @@
 // The answer to a text: it is read, then covered, then printed.
 ghost use Prim.Native.Nat.{_≤_};
 ghost use lib.ListN.{length};
-ghost use Rattle.text.specs.Words.{Written};
+ghost use Rattle.grid.specs.Rooms.{Written};
 ghost use Rattle.printed.specs.Printed.{printRoom};
 ghost use Rattle.flashlist.specs.Program.{coverText, refusalText, Answers};
 use cover::entry::Outcome;

@@ -2,7 +2,7 @@
 mod answer;
 
 use answer::answer;
-use grid::limits::TEXT_ROOM;
+use job::room::TEXT_ROOM;
 use libc::STDIN_FILENO;
 use libc::STDOUT_FILENO;
 use printed::outcome::PRINT_ROOM;

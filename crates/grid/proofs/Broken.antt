@@ -1,4 +1,4 @@
--- Answer 8 is right: the place is nowhere exactly where no column is broken, and else it is the lowest gap of the leftmost broken column.
+-- Answer 8 is right: there is no such square exactly where no column is broken, and else it is the lowest gap of the leftmost broken column.
 -- A square is a gap exactly where it passes the test of specs/, since all copper lies in the grid; the searches stop at the first that does.
 -- The statements for a raster stand at the end.
 use mathlib.Core.Path.{_≡_, sym, subst, ap₂, _∙_}
@@ -11,16 +11,14 @@ use native.Mathlib.Decide.{decLt}
 use native.Mathlib.Omega.{arith}
 use borrow.Author.Tests.{not-true}
 use Rattle.lists.specs.Lists.{any, from, upTo}
-use Rattle.lists.proofs.Truth.{bcase, never, and-left, and-right}
+use Rattle.lists.proofs.Truth.{bcase, ocase, never, and-left, and-right}
 use Rattle.lists.proofs.Ranges.{first-from}
 use Rattle.lists.proofs.Searches.{first-within, first-missed, any-where}
-use Rattle.grid.specs.Lines.{column, row}
-use Rattle.grid.specs.Squares.{Area, InGrid, Gap, Unbroken, BrokenAt}
-use Rattle.grid.specs.Raster.{areaOf, gapAt, gap, brokenPlace}
-use Rattle.grid.specs.declared.raster.Place.the-variants.{Nowhere, At}
+use Rattle.grid.specs.Squares.{Area, square, InGrid, Gap, Unbroken, BrokenAt}
+use Rattle.grid.specs.Raster.{areaOf, gapAt, gap, brokenSquare}
 use Rattle.grid.proofs.Areas.{area-in-grid}
 use Rattle.grid.proofs.Gaps.{is-gap}
-use Rattle.grid.proofs.Leftmost.{pcase, all-whole, first-broken}
+use Rattle.grid.proofs.Leftmost.{all-whole, first-broken}
 
 module _ (a : Area) where
   -- no column is broken exactly where no square is a gap
@@ -80,33 +78,33 @@ module _ (a : Area) (w h : ℕ) (g : InGrid w h a) where
     λ y l x. never (gap-passes c y x) (first-from (gapAt a h c) 0 h e y (omega arith) l),
   )
 
-  at-lowest : (c r : ℕ) → brokenPlace a w h ≡ At (column c) (row r) → BrokenAt a c r
+  at-lowest : (c r : ℕ) → brokenSquare a w h ≡ some (square c r) → BrokenAt a c r
   at-lowest c r e =
       let f = first-broken a h 0 w e in
       let k = column-broken c (f .0) in
       record { here = k .0; leftmost = λ x y l z. column-whole x (f .1 x (omega arith) l) y z; lowest = k .1 }
 
-  -- nowhere exactly where no column is broken
-  pub nowhere-unbroken : (brokenPlace a w h ≡ Nowhere) ↔ Unbroken a
-  nowhere-unbroken = (
+  -- none exactly where no column is broken
+  pub none-unbroken : (brokenSquare a w h ≡ none) ↔ Unbroken a
+  none-unbroken = (
     λ e. no-gaps a (λ c r x. column-whole c (all-whole a h 0 w e c (omega arith) (omega (arith, gap-inside c r x))) r x),
-    λ u. pcase (brokenPlace a w h) (λ e. e) (λ c r e. absurd (no-gap a u c r (at-lowest c r e .here))),
+    λ u. ocase (brokenSquare a w h) (λ e. e) (λ s e. absurd (no-gap a u (s .column) (s .row) (at-lowest (s .column) (s .row) e .here))),
   )
 
   -- else at the lowest gap of the leftmost broken column
-  pub at-broken : (c r : ℕ) → (brokenPlace a w h ≡ At (column c) (row r)) ↔ BrokenAt a c r
+  pub at-broken : (c r : ℕ) → (brokenSquare a w h ≡ some (square c r)) ↔ BrokenAt a c r
   at-broken c r = (
     at-lowest c r,
     λ b.
-        pcase (brokenPlace a w h)
-        (λ e. absurd (no-gap a (nowhere-unbroken .0 e) c r (b .here)))
-        (λ x y e. let q = one-place a (at-lowest x y e) b in e ∙ ap₂ (λ m n. At (column m) (row n)) (q .0) (q .1)),
+        ocase (brokenSquare a w h)
+        (λ e. absurd (no-gap a (none-unbroken .0 e) c r (b .here)))
+        (λ s e. let q = one-place a (at-lowest (s .column) (s .row) e) b in e ∙ ap₂ (λ m n. some (square m n)) (q .0) (q .1)),
   )
 
 -- of a raster
 module _ (w h : ℕ) (bytes : List ℕ) where
-  pub raster-unbroken : (brokenPlace (areaOf w h bytes) w h ≡ Nowhere) ↔ Unbroken (areaOf w h bytes)
-  raster-unbroken = nowhere-unbroken (areaOf w h bytes) w h (area-in-grid w h bytes)
+  pub raster-unbroken : (brokenSquare (areaOf w h bytes) w h ≡ none) ↔ Unbroken (areaOf w h bytes)
+  raster-unbroken = none-unbroken (areaOf w h bytes) w h (area-in-grid w h bytes)
 
-  pub raster-broken : (c r : ℕ) → (brokenPlace (areaOf w h bytes) w h ≡ At (column c) (row r)) ↔ BrokenAt (areaOf w h bytes) c r
+  pub raster-broken : (c r : ℕ) → (brokenSquare (areaOf w h bytes) w h ≡ some (square c r)) ↔ BrokenAt (areaOf w h bytes) c r
   raster-broken = at-broken (areaOf w h bytes) w h (area-in-grid w h bytes)

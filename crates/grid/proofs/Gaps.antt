@@ -4,22 +4,17 @@
 use mathlib.Core.Path.{_≡_, sym, ap, _∙_}
 use mathlib.Core.Bool.{true, false, not}
 use mathlib.Core.Logic.{by-cases}
-use mathlib.Core.Option.{none, some}
+use mathlib.Core.Option.{Option, none, some}
 use Prim.Native.Nat.{ℕ, suc, _-_, _≤_, _<_}
 use native.Mathlib.Decide.{decLt, ℕ-discrete}
 use native.Mathlib.Omega.{arith}
 use borrow.Author.Tests.{not-true, not-false}
-use Rattle.lists.specs.Lists.{any, from, upTo}
+use Rattle.lists.specs.Lists.{any, first, from, upTo}
 use Rattle.lists.proofs.Truth.{bcase, never}
-use Rattle.lists.proofs.Searches.{first-least, first-nowhere, first-within, any-within, any-nowhere}
+use Rattle.lists.proofs.Ranges.{first-from}
+use Rattle.lists.proofs.Searches.{first-least, first-nowhere, first-within, first-missed, any-within, any-nowhere}
 use Rattle.grid.specs.Squares.{Area}
 use Rattle.grid.specs.Raster.{gapAt, gap}
-use Rattle.grid.specs.Search.{nextFrom}
-use Rattle.grid.proofs.Next.{Next, next-is}
-
-pub gap-below : (a : Area) (h c x : ℕ) → gap a h c ≡ some x → x < h
-unfolding gap
-gap-below a h c x e = omega (arith, first-within (gapAt a h c) 0 h e)
 
 -- a row that is copper, or has none below it, or none above it, is no gap
 module _ (a : Area) (h c r : ℕ) where
@@ -44,38 +39,56 @@ module _ (a : Area) (h c r : ℕ) where
         any-within (a c) (suc r) (h - suc r) z (omega arith) (omega arith) above,
       )
 
-module _ (a : Area) (h c : ℕ) {b e t : ℕ} (B : Next (a c) h 0 b) (E : Next (λ k. not (a c k)) h b e) (T : Next (a c) h e t) where
-  -- no row below e is a gap
-  lower : (r : ℕ) → r < e → gapAt a h c r ≡ false
-  lower r l =
-      by-cases (decLt r b)
-      (λ u. no-gap-below a h c r (λ y v. B .skips y (omega arith) (omega arith)))
-      (λ u. no-gap-copper a h c r (not-false (a c r) (E .skips r (omega arith) l)))
+-- the code's three searches, one from where the other ended
+abbrev pub rise : Area → ℕ → ℕ → ℕ → Option ℕ
+rise a h c f = first (a c) (from f (h - f))
 
-  gap-edge : t < h → gap a h c ≡ some e
-  unfolding gap
-  gap-edge u =
-      let here : a c e ≡ false = not-true (a c e) (E .passes (omega arith)) in
-      let below : a c b ≡ true = B .passes (omega arith) in
-      let above : a c t ≡ true = T .passes u in
-      let b≢e : b < e = by-cases (ℕ-discrete b e) (λ q. absurd (never below (ap (a c) q ∙ here))) (λ d. omega arith) in
-      let e≢t : e < t = by-cases (ℕ-discrete e t) (λ q. absurd (never above (sym (ap (a c) q) ∙ here))) (λ d. omega arith) in
-      first-least (gapAt a h c) 0 h e (omega arith) (omega arith) (is-gap a h c e b t b≢e e≢t u below here above) (λ y l v. lower y v)
+abbrev pub fall : Area → ℕ → ℕ → ℕ → Option ℕ
+fall a h c f = first (λ k. not (a c k)) (from f (h - f))
 
-  gap-none : h ≤ t → gap a h c ≡ none
+module _ (a : Area) (h c : ℕ) where
+  -- no copper at all
+  pub gap-bare : rise a h c 0 ≡ none → gap a h c ≡ none
   unfolding gap
-  gap-none u =
+  gap-bare B =
       first-nowhere (gapAt a h c) 0 h
-      (λ r l v.
-      by-cases (decLt r e)
-      (λ w. lower r w)
-      (λ w. no-gap-above a h c r (λ y m n. T .skips y (omega arith) (omega arith))))
+      (λ r l v. no-gap-below a h c r (λ y u. first-missed (a c) 0 (h - 0) B y (omega arith) (omega arith)))
 
--- the three searches of the code, one from where the other ended
-pub gap-found : (a : Area) (h c : ℕ) {b e t : ℕ} → b ≡ nextFrom (a c) h 0 → e ≡ nextFrom (λ k. not (a c k)) h b → t ≡ nextFrom (a c) h e
-    → (t < h → gap a h c ≡ some e) × (h ≤ t → gap a h c ≡ none)
-gap-found a h c p q r =
-    let B = next-is (a c) h (omega arith) p in
-    let E = next-is (λ k. not (a c k)) h (B .high) q in
-    let T = next-is (a c) h (E .high) r in
-    (gap-edge a h c B E T, gap-none a h c B E T)
+  module _ {b : ℕ} (B : rise a h c 0 ≡ some b) where
+    -- no row below the lowest copper is a gap, and none of the copper from there on
+    below-bottom : (r : ℕ) → r < b → gapAt a h c r ≡ false
+    below-bottom r l = no-gap-below a h c r (λ y v. first-from (a c) 0 (h - 0) B y (omega arith) (omega arith))
+
+    pub gap-filled : fall a h c b ≡ none → gap a h c ≡ none
+    unfolding gap
+    gap-filled E =
+        first-nowhere (gapAt a h c) 0 h
+        (λ r l v.
+        by-cases (decLt r b) (below-bottom r)
+        (λ u. no-gap-copper a h c r (not-false (a c r) (first-missed (λ k. not (a c k)) b (h - b) E r (omega arith) (omega arith)))))
+
+    module _ {e : ℕ} (E : fall a h c b ≡ some e) where
+      -- no row below e is a gap
+      lower : (r : ℕ) → r < e → gapAt a h c r ≡ false
+      lower r l =
+          by-cases (decLt r b) (below-bottom r)
+          (λ u. no-gap-copper a h c r (not-false (a c r) (first-from (λ k. not (a c k)) b (h - b) E r (omega arith) l)))
+
+      pub gap-edge : {t : ℕ} → rise a h c e ≡ some t → gap a h c ≡ some e
+      unfolding gap
+      gap-edge {t} T =
+          let bottom = first-within (a c) 0 (h - 0) B in
+          let edge = first-within (λ k. not (a c k)) b (h - b) E in
+          let top = first-within (a c) e (h - e) T in
+          let here : a c e ≡ false = not-true (a c e) (edge .2) in
+          let b≢e : b < e = by-cases (ℕ-discrete b e) (λ q. absurd (never (bottom .2) (ap (a c) q ∙ here))) (λ d. omega arith) in
+          let e≢t : e < t = by-cases (ℕ-discrete e t) (λ q. absurd (never (top .2) (sym (ap (a c) q) ∙ here))) (λ d. omega arith) in
+          first-least (gapAt a h c) 0 h e (omega arith) (omega arith) (is-gap a h c e b t b≢e e≢t (omega arith) (bottom .2) here (top .2)) (λ y l v. lower y v)
+
+      pub gap-open : rise a h c e ≡ none → gap a h c ≡ none
+      unfolding gap
+      gap-open T =
+          first-nowhere (gapAt a h c) 0 h
+          (λ r l v.
+          by-cases (decLt r e) (lower r)
+          (λ w. no-gap-above a h c r (λ y m n. first-missed (a c) e (h - e) T y (omega arith) (omega arith))))

@@ -1,8 +1,9 @@
 pub mod Edges
 pub mod Index
+pub mod Writing
+pub mod Chain
 pub mod Next
 pub mod Gaps
-pub mod Reaches
 pub mod Areas
 pub mod Leftmost
 pub mod Broken

@@ -15,3 +15,10 @@ Determined {n} ps r Pre Post =
     → Post κs args x (atExit (endedOf n ps r) κs args v)
     → Post κs args y (atExit (endedOf n ps r) κs args w)
     → (x ≡ y) × (v ≡ w)
+
+-- what holds of every outcome that meets the contract, on arguments that the function may be called with: of the arguments, the result, and what is left behind each reference
+abbrev pub Always : {n : ℕ} (ps : List (PK n)) (r : RK n) → In n ps → Out n ps r
+    → ((κs : Lfts n) (args : Dens κs ps) → resT r κs .Denot → Lasts (endedOf n ps r) κs args → Type 0) → Type 0
+Always {n} ps r Pre Post P =
+    (κs : Lfts n) (args : Dens κs ps) → Pre κs args → (x : resT r κs .Denot) (v : Lasts (endedOf n ps r) κs args)
+    → Post κs args x (atExit (endedOf n ps r) κs args v) → P κs args x v

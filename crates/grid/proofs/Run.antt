@@ -15,12 +15,8 @@ use Rattle.lists.proofs.Truth.{ocase, never, fails, and-left, and-right, and-bo
 use Rattle.lists.proofs.Ranges.{first-from}
 use Rattle.lists.proofs.Searches.{first-within, first-missed, first-least, down-within, down-missed, down-above, down-greatest}
 use Rattle.grid.specs.Squares.{Area, Unbroken}
-use Rattle.grid.specs.Raster.{bottomOf, topOf, rowsOf}
-use Rattle.grid.specs.declared.lines.Row.{Row}
-use Rattle.grid.specs.declared.raster.Rows.{Rows}
-use Rattle.grid.specs.declared.raster.Rows.the-variants.{Empty, Reach}
-use Rattle.grid.specs.Search.{orEnd}
-use Rattle.grid.proofs.Reaches.{top-too}
+use Rattle.grid.specs.Raster.{bottomOf, topOf}
+use Rattle.grid.specs.Code.{orEnd}
 
 -- a column's lowest and highest copper row as the code has them, h where there is none
 abbrev pub bottomRow : Area → ℕ → ℕ → ℕ
@@ -41,33 +37,12 @@ leastTop a h (c ∷ cs) = min (topRow a h c) (leastTop a h cs)
 abbrev pub copperIn : Area → List ℕ → ℕ → Bool
 copperIn a cs r = all (λ c. a c r) cs
 
-abbrev bottomIn : Rows → ℕ
-bottomIn Empty = 0
-bottomIn (Reach b t) = b .0
-
-abbrev topIn : Rows → ℕ
-topIn Empty = 0
-topIn (Reach b t) = t .0
-
-apart : {b t : Row} → Empty ≡ Reach b t → ⊥
-apart e = let z : _≡_ {A = ℕ} 0 1 = cc in omega arith
-
--- what `column_rows` gives is the column's bottom and top
-module _ (a : Area) (h c : ℕ) where
-  pub reach-rows : {b t : Row} → rowsOf a h c ≡ Reach b t → (bottomRow a h c ≡ b .0) × (topRow a h c ≡ t .0)
-  reach-rows e =
-      ocase (bottomOf a h c)
-      (λ n. absurd (apart (rw n at e)))
-      (λ x p.
-      let q = top-too a h c p in
-      let f = rw (p, q .1) at e in
-      (ap (orEnd h) p ∙ ap bottomIn f, ap (orEnd h) (q .1) ∙ ap topIn f))
-
-  pub empty-rows : rowsOf a h c ≡ Empty → bottomRow a h c ≡ h
-  empty-rows e =
-      ocase (bottomOf a h c)
-      (λ n. ap (orEnd h) n)
-      (λ x p. let q = top-too a h c p in absurd (apart (sym (rw (p, q .1) at e))))
+-- where there is a lowest copper row, there is a highest
+pub top-too : (a : Area) (h c : ℕ) {b : ℕ} → bottomOf a h c ≡ some b → (t : ℕ) × (topOf a h c ≡ some t)
+unfolding bottomOf topOf
+top-too a h c {b} e =
+    let r = first-within (a c) 0 h e in
+    ocase (topOf a h c) (λ n. absurd (never (r .2) (down-missed (a c) h n b (omega arith)))) (λ t q. (t, q))
 
 module _ (a : Area) (h : ℕ) (unbroken : Unbroken a) where
   -- unbroken, the ends included

@@ -4,6 +4,7 @@ use mathlib.Core.Path.{_≡_, refl, sym}
 use mathlib.Core.Bool.{Bool, not, _||_, false≢true}
 use mathlib.Core.List.{List, [], _∷_}
 use mathlib.Core.Logic.{by-cases, _≢_}
+use mathlib.Core.Option.{some}
 use Prim.Native.Nat.{ℕ, zero, suc, _<_}
 use native.Mathlib.Decide.{ℕ-discrete}
 use native.Mathlib.Omega.{arith}
@@ -13,18 +14,12 @@ use Rattle.lists.specs.Lists.{all, upTo}
 use Rattle.lists.proofs.Members.{all-of}
 use Rattle.lists.proofs.Ranges.{in-from}
 use lib.ListN.{length}
-use Rattle.grid.specs.Lines.{column, row}
-use Rattle.grid.specs.Squares.{Square, Rectangle, Within, InCopper, Copper, Unbroken, Least, Independent, rectangleAt, squareAt}
-use Rattle.grid.specs.Raster.{areaOf, firstBad, badPlace, gap, brokenFrom, brokenPlace, bottomOf, topOf, rowsOf}
-use Rattle.grid.specs.declared.raster.Place.the-variants.{At}
-use Rattle.grid.specs.declared.raster.Rows.the-variants.{Reach}
+use Rattle.grid.specs.Squares.{Square, square, Rectangle, Within, InCopper, Copper, Unbroken, Least, Independent, rectangleAt, squareAt}
+use Rattle.grid.specs.Raster.{areaOf, firstBad, badSquare, gap, brokenFrom, brokenSquare, bottomOf, topOf}
 use Rattle.grid.proofs.Areas.{area-in-grid}
 use Rattle.grid.proofs.Broken.{raster-unbroken}
 use Rattle.grid.proofs.Independence.{filled-in, independent}
 use Rattle.grid.proofs.Pigeonhole.{least}
-
-abbrev square : ℕ → ℕ → Square
-square c r = record { column = c; row = r }
 
 abbrev rectangle : ℕ → ℕ → ℕ → ℕ → Rectangle
 rectangle f l b t = record { first = f; last = l; bottom = b; top = t }
@@ -43,7 +38,7 @@ abbrev step : List ℕ
 step = 1 ∷ 0 ∷ 1 ∷ 1 ∷ 0 ∷ 1 ∷ []
 
 -- the ring is broken, at its empty centre
-ring-broken : brokenPlace (areaOf 3 3 ring) 3 3 ≡ At (column 1) (row 1)
+ring-broken : brokenSquare (areaOf 3 3 ring) 3 3 ≡ some (square 1 1)
 unfolding brokenFrom gap
 ring-broken = refl
 
@@ -61,16 +56,16 @@ unfolding brokenFrom gap
 step-whole = raster-unbroken 2 3 step .0 refl
 
 -- "cup: 0-2, 0-0, 0-2", "step: 0-1, 1-2"
-cup-columns : (rowsOf (areaOf 3 3 cup) 3 0 ≡ Reach (row 0) (row 2)) × (rowsOf (areaOf 3 3 cup) 3 1 ≡ Reach (row 0) (row 0))
+cup-columns : (bottomOf (areaOf 3 3 cup) 3 0 ≡ some 0) × (topOf (areaOf 3 3 cup) 3 0 ≡ some 2) × (topOf (areaOf 3 3 cup) 3 1 ≡ some 0)
 unfolding bottomOf topOf
-cup-columns = (refl, refl)
+cup-columns = (refl, refl, refl)
 
-step-columns : (rowsOf (areaOf 2 3 step) 3 0 ≡ Reach (row 0) (row 1)) × (rowsOf (areaOf 2 3 step) 3 1 ≡ Reach (row 1) (row 2))
+step-columns : (topOf (areaOf 2 3 step) 3 0 ≡ some 1) × (bottomOf (areaOf 2 3 step) 3 1 ≡ some 1) × (topOf (areaOf 2 3 step) 3 1 ≡ some 2)
 unfolding bottomOf topOf
-step-columns = (refl, refl)
+step-columns = (refl, refl, refl)
 
 -- a raster with a byte 2 in its second row, third column
-bad-found : badPlace 3 (0 ∷ 1 ∷ 0 ∷ 1 ∷ 1 ∷ 2 ∷ 0 ∷ 3 ∷ 0 ∷ []) ≡ At (column 2) (row 1)
+bad-found : badSquare 3 (0 ∷ 1 ∷ 0 ∷ 1 ∷ 1 ∷ 2 ∷ 0 ∷ 3 ∷ 0 ∷ []) ≡ some (square 2 1)
 unfolding firstBad
 bad-found = refl
 

@@ -1,5 +1,10 @@
--- Document 01's 'Answers by number': a number with its place.
+-- Document 01's 'Answers by number': a number with its place, and the order where several apply.
+use mathlib.Core.Bool.{Bool, cond}
+use mathlib.Core.List.{List, [], _∷_}
+use mathlib.Core.Option.{Option, none, some}
 use Prim.Native.Nat.{ℕ}
+use lib.Dec.{eqb}
+use Rattle.grid.specs.Squares.{Square}
 use Rattle.grid.specs.declared.answers.Answer.{Answer}
 
 abbrev pub answer : ℕ → ℕ → ℕ → Answer
@@ -11,6 +16,24 @@ done = answer 0 0 0
 
 abbrev pub refused : ℕ → Answer
 refused n = answer n 0 0
+
+-- a check: passed, or a refusal with its number
+abbrev pub check : Bool → ℕ → Answer
+check passed n = cond passed done (refused n)
+
+-- a check that looks for a square: there is none, or a refusal with its number at the square's column and row
+abbrev pub checkAt : Option Square → ℕ → Answer
+checkAt none n = done
+checkAt (some s) n = answer n (s .column) (s .row)
+
+-- an answer, or, where it refuses nothing, the next one
+unfoldable pub orElse : Answer → Answer → Answer
+orElse a next = cond (eqb (a .number) 0) next a
+
+-- "Order where several apply": the first of the checks that refuses, or done
+unfoldable pub firstRefusal : List Answer → Answer
+firstRefusal [] = done
+firstRefusal (a ∷ later) = orElse a (firstRefusal later)
 
 abbrev pub sizeOut : ℕ
 sizeOut = 1

@@ -1,6 +1,7 @@
 pub mod Limits
+pub mod Squares
 pub mod Answers
 pub mod Lines
-pub mod Squares
 pub mod Raster
-pub mod Search
+pub mod Rooms
+pub mod Code

@@ -1,5 +1,5 @@
--- Document 01's limits and record sizes, each once ('The grid and its numbers').
-use Prim.Native.Nat.{ℕ, _+_}
+-- Document 01's limits and record sizes, each once ('The grid and its numbers'). A room is as many records as a list can have, so it is a product.
+use Prim.Native.Nat.{ℕ, _+_, _*_}
 
 -- "Width and height are 1 to 64."
 abbrev pub side : ℕ
@@ -9,9 +9,9 @@ side = 64
 abbrev pub lines : ℕ
 lines = side + 1
 
--- "The allowance is 0 to 64."
+-- "The allowance is 0 to 64.": no area needs more flashes than it has columns
 abbrev pub allowanceLimit : ℕ
-allowanceLimit = 64
+allowanceLimit = side
 
 -- "A flash record is four bytes", "A mark record is two bytes"
 abbrev pub flashRecord : ℕ
@@ -20,15 +20,12 @@ flashRecord = 4
 abbrev pub markRecord : ℕ
 markRecord = 2
 
--- "at least 256 bytes for flashes, 128 for marks, 4,096 for a raster that is read in, 4,613 for a job written out"
+-- "at least 256 bytes for flashes, 128 for marks, 4,096 for a raster that is read in": "64 records always suffice"
 abbrev pub flashRoom : ℕ
-flashRoom = 256
+flashRoom = side * flashRecord
 
 abbrev pub markRoom : ℕ
-markRoom = 128
+markRoom = side * markRecord
 
 abbrev pub rasterRoom : ℕ
-rasterRoom = 4096
-
-abbrev pub textRoom : ℕ
-textRoom = 4613
+rasterRoom = side * side

@@ -3,7 +3,6 @@
 use mathlib.Core.Bool.{Bool, cond, _&&_}
 use Prim.Native.Nat.{ℕ, _+_, _-_}
 use Rattle.method.specs.Intervals.{Interval as Span, span, proper, holds, inside, meet}
-use Rattle.grid.specs.Limits.{side}
 use Rattle.grid.specs.declared.lines.Column.{Column}
 use Rattle.grid.specs.declared.lines.Row.{Row}
 use Rattle.grid.specs.declared.lines.Line.{Line}
@@ -37,8 +36,9 @@ leftLine c = line (c .0)
 abbrev pub rightLine : Column → Line
 rightLine c = line (c .0 + 1)
 
-abbrev pub wholeWidth : Interval
-wholeWidth = interval 0 side
+-- the whole width of a grid, from line 0 to its last line
+abbrev pub wholeTo : Line → Interval
+wholeTo last = interval 0 (last .0)
 
 -- "An interval's length is R - L"
 abbrev pub lengthOf : Interval → ℕ

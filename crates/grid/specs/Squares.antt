@@ -15,6 +15,9 @@ pub record Square : Type 0 where
   pub column : ℕ
   pub row : ℕ
 
+abbrev pub square : ℕ → ℕ → Square
+square c r = record { column = c; row = r }
+
 abbrev pub Copper : Area → Square → Type 0
 Copper a s = a (s .column) (s .row) ≡ true
 
@@ -62,7 +65,7 @@ abbrev pub rectangleAt : List Rectangle → ℕ → Rectangle
 rectangleAt qs k = getD qs k (record { first = 0; last = 0; bottom = 0; top = 0 })
 
 abbrev pub squareAt : List Square → ℕ → Square
-squareAt ss k = getD ss k (record { column = 0; row = 0 })
+squareAt ss k = getD ss k (square 0 0)
 
 -- "rectangles whose union is the area. Overlap is allowed."
 pub record Cover (a : Area) (qs : List Rectangle) : Type 0 where

@@ -1,6 +1,8 @@
-// Document 01's answers: a number and its place.
+// Document 01's answers, a number and its place, and the chain of checks: an answer, or else what the next check says.
 ghost use mathlib.Core.Path.{_≡_};
-ghost use Rattle.grid.specs.Answers.{answer, done, refused};
+ghost use Rattle.grid.specs.Answers.{answer, done, refused, check, checkAt, orElse};
+ghost use Rattle.grid.specs.Code.{squareIn};
+use crate::raster::Place;
 
 pub struct Answer {
     pub number: u64,
@@ -56,5 +58,33 @@ impl Answer {
         ensures { λ r. ⌜ r ≡ answer number x y ⌝ }
     {
         Answer { number, x, y }
+    }
+
+    // The refusal that stands already, or else the next answer.
+    pub fn or(self, next: Answer) -> Answer
+        ensures { λ r. ⌜ r ≡ orElse self next ⌝ }
+    {
+        if self.number == DONE { next } else { self }
+    }
+
+    // Or else a refusal with the number, unless the check passed.
+    pub fn unless(self, passed: bool, number: u64) -> Answer
+        ensures { λ r. ⌜ r ≡ orElse self (check passed number) ⌝ }
+    {
+        if passed {
+            self.or(Answer::done())
+        } else {
+            self.or(Answer::refused(number))
+        }
+    }
+
+    // Or else a refusal with the number, at the place that was found.
+    pub fn found(self, place: Place, number: u64) -> Answer
+        ensures { λ r. ⌜ r ≡ orElse self (checkAt (squareIn place) number) ⌝ }
+    {
+        match place {
+            Place::Nowhere => self.or(Answer::done()),
+            Place::At(c, r) => self.or(Answer::at(number, c.0 as u64, r.0 as u64)),
+        }
     }
 }

@@ -1,7 +1,7 @@
 // A column, a row and a grid line are three counts that are never taken for one another; an interval lies between two lines.
 ghost use mathlib.Core.Path.{_≡_};
 ghost use Prim.Native.Nat.{_+_, _^_, _<_, _≤_, min, max};
-ghost use Rattle.grid.specs.Lines.{leftLine, rightLine, wholeWidth, lengthOf, meetOf, containsOf, holdsOf, columnsOf};
+ghost use Rattle.grid.specs.Lines.{leftLine, rightLine, wholeTo, lengthOf, meetOf, containsOf, holdsOf, columnsOf};
 use crate::limits::SIDE;
 
 pub struct Column(pub usize);
@@ -68,10 +68,13 @@ impl Interval {
         right: Line(SIDE),
     };
 
-    pub fn whole() -> Interval
-        ensures { λ r. ⌜ r ≡ wholeWidth ⌝ }
+    // The whole width of a grid whose last line this is.
+    pub fn up_to(last: Line) -> Interval
+        ensures { λ r. ⌜ r ≡ wholeTo last ⌝ }
     {
-        Interval::WHOLE
+        let whole = Interval::WHOLE;
+        let left = whole.left;
+        Interval { left, right: last }
     }
 
     pub fn length(self) -> usize
@@ -98,10 +101,12 @@ impl Interval {
         other.left.0 < other.right.0 && self.left.0 <= other.left.0 && other.right.0 <= self.right.0
     }
 
+    // The column's left line lies from this one's left line on and before its right line.
     pub fn holds(self, column: Column) -> bool
         ensures { λ r. ⌜ r ≡ holdsOf self column ⌝ }
     {
-        self.left.0 <= column.0 && column.0 < self.right.0
+        let line = column.left_line();
+        self.left.0 <= line.0 && line.0 < self.right.0
     }
 
     pub fn columns(self) -> Columns

@@ -1,16 +1,23 @@
 // The checks of a raster: its size, its bytes, its columns.
 ghost use mathlib.Core.Path.{_≡_};
+ghost use Prim.Native.Nat.{_-_};
 ghost use lib.ListN.{length};
-ghost use Rattle.grid.specs.Raster.{sideFits, sizeFits, lengthFits, Sized, areaOf, firstBad, badPlace, gap, brokenPlace, topOf, rowsOf};
-ghost use Rattle.grid.specs.Search.{orEnd, nextFrom, asAsked};
+ghost use Rattle.lists.specs.Lists as List;
+ghost use Rattle.lists.specs.Lists.{first};
+ghost use Rattle.grid.specs.Raster.{sideFits, sizeFits, lengthFits, firstBad, badSquare, gap, brokenSquare};
+ghost use Rattle.grid.specs.Code.{Sized, areaIn, placeOf, levelOf, orEnd, asAsked};
 use crate::limits::SIDE;
 use crate::lines::Column;
 use crate::lines::Row;
 
-// The numbers of a job, inside the program.
-pub struct Job {
+pub struct Size {
     pub width: usize,
     pub height: usize,
+}
+
+// The numbers of a job, inside the program.
+pub struct Job {
+    pub size: Size,
     pub allowance: usize,
 }
 
@@ -20,10 +27,10 @@ pub enum Place {
     At(Column, Row),
 }
 
-// The rows that a column reaches, the lowest and the highest.
-pub enum Rows {
-    Empty,
-    Reach(Row, Row),
+// A row that was looked for.
+pub enum Level {
+    None,
+    In(Row),
 }
 
 fn side_fits(n: u64) -> bool
@@ -60,11 +67,11 @@ fn first_bad(raster: &[u8]) -> usize
     raster.len()
 }
 
-pub fn bad_byte(job: Job, raster: &[u8]) -> Place
-    requires { ⌜ Sized job (now raster) ⌝ }
-    ensures { λ r. ⌜ r ≡ badPlace (job .width) (now (raster .entry)) ⌝ }
+pub fn bad_byte(size: Size, raster: &[u8]) -> Place
+    requires { ⌜ Sized size (now raster) ⌝ }
+    ensures { λ r. ⌜ r ≡ placeOf (badSquare (size .width) (now (raster .entry))) ⌝ }
 {
-    let w = job.width;
+    let w = size.width;
     let i = first_bad(raster);
     if i < raster.len() {
         Place::At(Column(i % w), Row(i / w))
@@ -73,12 +80,12 @@ pub fn bad_byte(job: Job, raster: &[u8]) -> Place
     }
 }
 
-pub fn is_copper(job: Job, raster: &[u8], column: Column, row: Row) -> bool
-    requires { ⌜ Sized job (now raster) ⌝ }
-    ensures { λ r. ⌜ r ≡ areaOf (job .width) (job .height) (now (raster .entry)) (column .0) (row .0) ⌝ }
+pub fn is_copper(size: Size, raster: &[u8], column: Column, row: Row) -> bool
+    requires { ⌜ Sized size (now raster) ⌝ }
+    ensures { λ r. ⌜ r ≡ areaIn size (now (raster .entry)) (column .0) (row .0) ⌝ }
 {
-    let w = job.width;
-    let h = job.height;
+    let w = size.width;
+    let h = size.height;
     let c = column.0;
     let r = row.0;
     if c < w && r < h {
@@ -89,73 +96,46 @@ pub fn is_copper(job: Job, raster: &[u8], column: Column, row: Row) -> bool
     }
 }
 
-// The lowest row from `from` on whose square in the column is copper, or is not, as asked; the height where there is none.
-fn next_row(job: Job, raster: &[u8], column: Column, from: Row, copper: bool) -> Row
-    requires { ⌜ Sized job (now raster) ⌝ }
-    ensures { λ r. ⌜ r .0 ≡ nextFrom (λ k. asAsked copper (areaOf (job .width) (job .height) (now (raster .entry)) (column .0) k)) (job .height) («from» .0) ⌝ }
+// The lowest row from `from` on whose square in the column is copper, or is not, as asked.
+fn next_row(size: Size, raster: &[u8], column: Column, from: Row, copper: bool) -> Level
+    requires { ⌜ Sized size (now raster) ⌝ }
+    ensures { λ r. ⌜ r ≡ levelOf (first (λ k. asAsked copper (areaIn size (now (raster .entry)) (column .0) k)) (List.from («from» .0) (size .height - «from» .0))) ⌝ }
 {
-    let h = job.height;
+    let h = size.height;
     for r in from.0..h {
-        if is_copper(job, raster, column, Row(r)) == copper {
-            return Row(r);
+        if is_copper(size, raster, column, Row(r)) == copper {
+            return Level::In(Row(r));
         }
     }
-    Row(h)
+    Level::None
 }
 
-// The lowest empty square of the column with copper below and above, or the height.
-fn gap_row(job: Job, raster: &[u8], column: Column) -> Row
-    requires { ⌜ Sized job (now raster) ⌝ }
-    ensures { λ r. ⌜ r .0 ≡ orEnd (job .height) (gap (areaOf (job .width) (job .height) (now (raster .entry))) (job .height) (column .0)) ⌝ }
+// The lowest empty square of the column with copper below and above.
+fn gap_row(size: Size, raster: &[u8], column: Column) -> Level
+    requires { ⌜ Sized size (now raster) ⌝ }
+    ensures { λ r. ⌜ r ≡ levelOf (gap (areaIn size (now (raster .entry))) (size .height) (column .0)) ⌝ }
 {
-    let h = job.height;
-    let bottom = next_row(job, raster, column, Row(0), true);
-    let edge = next_row(job, raster, column, bottom, false);
-    let above = next_row(job, raster, column, edge, true);
-    if above.0 < h { edge } else { Row(h) }
+    let Level::In(bottom) = next_row(size, raster, column, Row(0), true) else {
+        return Level::None;
+    };
+    let Level::In(edge) = next_row(size, raster, column, bottom, false) else {
+        return Level::None;
+    };
+    match next_row(size, raster, column, edge, true) {
+        Level::In(_) => Level::In(edge),
+        Level::None => Level::None,
+    }
 }
 
-pub fn broken(job: Job, raster: &[u8]) -> Place
-    requires { ⌜ Sized job (now raster) ⌝ }
-    ensures { λ r. ⌜ r ≡ brokenPlace (areaOf (job .width) (job .height) (now (raster .entry))) (job .width) (job .height) ⌝ }
+pub fn broken(size: Size, raster: &[u8]) -> Place
+    requires { ⌜ Sized size (now raster) ⌝ }
+    ensures { λ r. ⌜ r ≡ placeOf (brokenSquare (areaIn size (now (raster .entry))) (size .width) (size .height)) ⌝ }
 {
-    let w = job.width;
-    let h = job.height;
+    let w = size.width;
     for c in 0..w {
-        let gap = gap_row(job, raster, Column(c));
-        if gap.0 < h {
+        if let Level::In(gap) = gap_row(size, raster, Column(c)) {
             return Place::At(Column(c), gap);
         }
     }
     Place::Nowhere
-}
-
-// The highest copper row of the column, or the height where there is none.
-fn last_row(job: Job, raster: &[u8], column: Column) -> Row
-    requires { ⌜ Sized job (now raster) ⌝ }
-    ensures { λ r. ⌜ r .0 ≡ orEnd (job .height) (topOf (areaOf (job .width) (job .height) (now (raster .entry))) (job .height) (column .0)) ⌝ }
-{
-    let h = job.height;
-    let mut left = h;
-    while 0 < left {
-        left -= 1;
-        if is_copper(job, raster, column, Row(left)) {
-            return Row(left);
-        }
-    }
-    Row(h)
-}
-
-// The lowest and the highest copper row of a column.
-pub fn column_rows(job: Job, raster: &[u8], column: Column) -> Rows
-    requires { ⌜ Sized job (now raster) ⌝ }
-    ensures { λ r. ⌜ r ≡ rowsOf (areaOf (job .width) (job .height) (now (raster .entry))) (job .height) (column .0) ⌝ }
-{
-    let h = job.height;
-    let bottom = next_row(job, raster, column, Row(0), true);
-    if bottom.0 < h {
-        Rows::Reach(bottom, last_row(job, raster, column))
-    } else {
-        Rows::Empty
-    }
 }

@@ -3,23 +3,31 @@
 use mathlib.Core.Path.{refl, sym, _∙_}
 use Rattle.grid.proofs.Outcome.{Determined}
 use Rattle.intervals.proofs.table.interval_at
+use Rattle.intervals.proofs.table.cells_to
+use Rattle.intervals.proofs.table.is_on
 use Rattle.intervals.proofs.table.empty
 use Rattle.intervals.proofs.table.copy
 use Rattle.intervals.proofs.table.has
 use Rattle.intervals.proofs.table.put
 use Rattle.intervals.proofs.table.take
-use Rattle.intervals.proofs.table.is_empty
 use Rattle.intervals.proofs.table.size
-use Rattle.intervals.proofs.strike.held
-use Rattle.intervals.proofs.strike.least
-use Rattle.intervals.proofs.strike.strike
+use Rattle.intervals.proofs.column.held
+use Rattle.intervals.proofs.column.least
+use Rattle.intervals.proofs.column.strike
 use Rattle.intervals.proofs.dependent.dependent
+use Rattle.intervals.proofs.bracket.bracket_from
 use Rattle.intervals.proofs.bracket.bracket
 use Rattle.intervals.proofs.reduce.reduce
 use Rattle.intervals.proofs.final_set.final_set
 
 pub interval-at-determined : Determined interval_at.Kinds.ps interval_at.Kinds.r interval_at.Reads.Pre interval_at.Reads.Post
 interval-at-determined κs a pre x y v w p q = (p ∙ sym q, refl)
+
+pub cells-to-determined : Determined cells_to.Kinds.ps cells_to.Kinds.r cells_to.Reads.Pre cells_to.Reads.Post
+cells-to-determined κs a pre x y v w p q = (p ∙ sym q, refl)
+
+pub is-on-determined : Determined is_on.Kinds.ps is_on.Kinds.r is_on.Reads.Pre is_on.Reads.Post
+is-on-determined κs a pre x y v w p q = (p ∙ sym q, refl)
 
 pub empty-determined : Determined empty.Kinds.ps empty.Kinds.r empty.Reads.Pre empty.Reads.Post
 empty-determined κs a pre x y v w p q = (p ∙ sym q, refl)
@@ -36,9 +44,6 @@ put-determined κs a pre x y v w p q = (refl, λ i. ((p ∙ sym q) i, v .1))
 pub take-determined : Determined take.Kinds.ps take.Kinds.r take.Reads.Pre take.Reads.Post
 take-determined κs a pre x y v w p q = (refl, λ i. ((p ∙ sym q) i, v .1))
 
-pub is-empty-determined : Determined is_empty.Kinds.ps is_empty.Kinds.r is_empty.Reads.Pre is_empty.Reads.Post
-is-empty-determined κs a pre x y v w p q = (p ∙ sym q, refl)
-
 pub size-determined : Determined size.Kinds.ps size.Kinds.r size.Reads.Pre size.Reads.Post
 size-determined κs a pre x y v w p q = (p ∙ sym q, refl)
 
@@ -53,6 +58,9 @@ strike-determined κs a pre x y v w p q = (refl, λ i. ((p ∙ sym q) i, v .1))
 
 pub dependent-determined : Determined dependent.Kinds.ps dependent.Kinds.r dependent.Reads.Pre dependent.Reads.Post
 dependent-determined κs a pre x y v w p q = (p ∙ sym q, refl)
+
+pub bracket-from-determined : Determined bracket_from.Kinds.ps bracket_from.Kinds.r bracket_from.Reads.Pre bracket_from.Reads.Post
+bracket-from-determined κs a pre x y v w p q = (p ∙ sym q, refl)
 
 pub bracket-determined : Determined bracket.Kinds.ps bracket.Kinds.r bracket.Reads.Pre bracket.Reads.Post
 bracket-determined κs a pre x y v w p q = (p ∙ sym q, refl)

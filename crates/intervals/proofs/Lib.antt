@@ -1,7 +1,7 @@
 pub mod TableLaws
 pub mod CellOrder
-pub mod CellPasses
 pub mod RowCounts
 pub mod ReduceRows
+pub mod LeftmostAt
 pub mod NextSteps
 pub mod Determined

@@ -23,10 +23,10 @@ use Rattle.method.proofs.Sums.{sum-one}
 use Rattle.method.proofs.Boxes.{K-lines}
 use Rattle.method.proofs.Counts.{count-box}
 use Rattle.method.proofs.Lines.{holds-lines, lines-hold, inside-lines}
-use Rattle.grid.specs.Limits.{lines}
-use Rattle.intervals.specs.Table.{cells, setOf, Tabled}
+use Rattle.intervals.specs.Table.{cells, cellsTo, onAt, setOf, Tabled}
 use Rattle.intervals.specs.Counts.{heldFrom}
-use Rattle.intervals.proofs.CellOrder.{isOn, length-cells}
+use Rattle.intervals.proofs.TableLaws.{set-listed}
+use Rattle.intervals.proofs.CellOrder.{length-cells}
 
 count-add {ℓ} : {A : Type ℓ} (p q r : A → Bool) (xs : List A) → ((x : A) → bit (p x) ≡ bit (q x) + bit (r x)) → count p xs ≡ count q xs + count r xs
 count-add p q r [] h = refl
@@ -150,4 +150,11 @@ module _ (s : List Span) (a b : ℕ) where
       (λ t. let w = holds-lines l i t in lt-ltb (i .left) (l + 1) (omega arith)))
 
 pub set-bound : {n : ℕ} {t : List ℕ} → Tabled n t → length (setOf n t) ≤ cells
-set-bound {n} {t} T = omega (arith, T .fits, length-cells T, count-at-most (isOn t) (upTo (n * lines)), length-from 0 (n * lines))
+set-bound {n} {t} T =
+    omega (
+      arith,
+      T .fits,
+      length-cells n (T .fits) (set-listed n t),
+      count-at-most (onAt (setOf n t)) (upTo (cellsTo n)),
+      length-from 0 (cellsTo n),
+    )

@@ -1,5 +1,5 @@
 -- A table and the set that it holds: each byte is one membership, and a table of a set holds that set.
--- By the cell's number, left line * 65 + right line, which gives both lines back. Every function over a table crosses here.
+-- By the cell's number, left line * lines + right line, which gives both lines back. Every function over a table crosses here.
 use mathlib.Core.Path.{_≡_, refl, sym, ap, _∙_, subst⁻¹}
 use mathlib.Core.Bool.{Bool, true, false, cond, _&&_}
 use mathlib.Core.List.{List, []}
@@ -21,7 +21,7 @@ use Rattle.method.proofs.Sets.{bit}
 use Rattle.method.proofs.Lines.{same-path, path-same, proper-lines, lines-proper}
 use Rattle.method.proofs.Listed.{member-select, select-same, select-listed, listed-lines}
 use Rattle.grid.specs.Limits.{side, lines}
-use Rattle.intervals.specs.Table.{cells, cellOf, spanAt, setOf, tableOf, Tabled, changed}
+use Rattle.intervals.specs.Table.{cells, cellOf, spanAt, cellsTo, onAt, setOf, tableOf, Tabled, changed}
 
 -- a membership as a byte, and back
 pub bit-test : (b : Bool) → eqb (bit b) 1 ≡ b
@@ -42,6 +42,10 @@ span-cell i h =
 
 pub cell-span : (k : ℕ) → cellOf (spanAt k) ≡ k
 cell-span k = omega arith
+
+-- the cell of an interval over the lines 0 to n is one of theirs
+pub cell-before : (n : ℕ) → n ≤ side → (i : Span) → i .left < i .right → i .right ≤ n → cellOf i < cellsTo n
+cell-before n fits i l r = omega arith
 
 -- the table of a set, byte by byte
 module _ (s : List Span) where
@@ -67,7 +71,7 @@ module _ (n : ℕ) (t : List ℕ) where
   unfolding setOf
   member-set i = member-select n (λ i. eqb (getD t (cellOf i) 0) 1) i
 
--- a set over at most 65 lines is what its table holds
+-- a set over lines within the limit is what its table holds
 module _ (n : ℕ) (s : List Span) (fits : n ≤ side) (listed : Listed n s) where
   pub set-table : setOf n (tableOf s) ≡ s
   unfolding setOf
@@ -92,6 +96,9 @@ module _ {n : ℕ} {t : List ℕ} (T : Tabled n t) where
 
   pub tabled-at : (k : ℕ) → k < cells → getD t k 0 ≡ bit (member (spanAt k) (setOf n t))
   tabled-at k h = ap (λ u. getD u k 0) (T .whole) ∙ table-at (setOf n t) k h
+
+  pub tabled-on : (k : ℕ) → k < cellsTo n → eqb (getD t k 0) 1 ≡ onAt (setOf n t) k
+  tabled-on k h = let fits = T .fits in ap (λ b. eqb b 1) (tabled-at k (omega arith)) ∙ bit-test (onAt (setOf n t) k)
 
 -- the test for an interval over the lines 0 to n
 pub within-lines : (n : ℕ) (i : Span) → (proper i && leb (i .right) n) ≡ true → (i .left < i .right) × (i .right ≤ n)

@@ -1,4 +1,4 @@
--- What one row of a set adds to the counts of the columns.
+-- For inner functions only (`add_row`, `held_row`): what one row of a set adds to the counts of the columns.
 use mathlib.Core.Bool.{_&&_}
 use mathlib.Core.List.{List, map}
 use Prim.Native.Nat.{ℕ, _+_}

@@ -1,4 +1,4 @@
--- How far the intervals from one line reach.
+-- For an inner function only (`furthest`): how far the intervals from one line reach.
 use mathlib.Core.Bool.{cond, _&&_}
 use mathlib.Core.List.{List}
 use Prim.Native.Nat.{ℕ, zero, suc}

@@ -23,6 +23,14 @@ cellOf i = i .left * lines + i .right
 abbrev pub spanAt : ℕ → Span
 spanAt k = span (k / lines) (k % lines)
 
+-- the cells before this one have every interval over the lines 0 to n: each begins before line n
+abbrev pub cellsTo : ℕ → ℕ
+cellsTo n = n * lines
+
+-- the interval of cell k is in the set
+abbrev pub onAt : List Span → ℕ → Bool
+onAt s k = member (spanAt k) s
+
 -- the set that a table holds, over the lines 0 to n
 unfoldable pub setOf : ℕ → List ℕ → List Span
 setOf n t = select n (λ i. eqb (getD t (cellOf i) 0) 1)

@@ -1,9 +1,9 @@
 // The interval table, and the method over it: dependent, the bracket search, reduce, final.
 pub mod bracket;
+pub mod column;
 pub mod dependent;
 pub mod final_set;
 pub mod reduce;
-pub mod strike;
 pub mod table;
 
 use grid::limits::LINES;

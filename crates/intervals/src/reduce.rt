@@ -5,9 +5,7 @@ ghost use Rattle.grid.specs.Lines.{line, spanOf};
 ghost use Rattle.intervals.specs.Table.{setOf, tableOf, Tabled};
 ghost use Rattle.intervals.specs.Reach.{reach};
 use crate::Table;
-use crate::table::has;
-use crate::table::put;
-use crate::table::take;
+use crate::table;
 use grid::lines::Interval;
 use grid::lines::Line;
 
@@ -18,7 +16,7 @@ fn furthest(t: &Table, last: Line, left: Line, from: Line, to: Line) -> Line
 {
     let mut r = to.0;
     while from.0 < r {
-        if has(
+        if table::has(
             t,
             last,
             Interval {
@@ -49,8 +47,8 @@ pub fn reduce(t: &mut Table, last: Line, d: Interval)
             right: furthest(t, last, Line(l), reached, right),
         };
         if reached.0 < next.right.0 {
-            take(t, last, next);
-            put(t, last, outer.meet(next));
+            table::take(t, last, next);
+            table::put(t, last, outer.meet(next));
             outer = next;
         }
     }

@@ -2,13 +2,13 @@
 ghost use mathlib.Core.Path.{_≡_};
 ghost use mathlib.Core.Bool.{_&&_};
 ghost use mathlib.Core.List.{[]};
-ghost use Prim.Native.Nat.{_<_};
-ghost use lib.Dec.{leb, eqb};
+ghost use Prim.Native.Nat.{_<_, _≤_};
+ghost use lib.Dec.{leb};
 ghost use lib.ListN.{length};
 ghost use Rattle.method.specs.Intervals.{proper, member};
-ghost use Rattle.grid.specs.Limits.{lines};
+ghost use Rattle.grid.specs.Limits.{side, lines};
 ghost use Rattle.grid.specs.Lines.{spanOf, intervalOf};
-ghost use Rattle.intervals.specs.Table.{cellOf, spanAt, setOf, tableOf, Tabled, changed, with, without};
+ghost use Rattle.intervals.specs.Table.{cellOf, spanAt, cellsTo, onAt, setOf, tableOf, Tabled, changed, with, without};
 use crate::CELLS;
 use crate::Table;
 use grid::limits::LINES;
@@ -33,15 +33,30 @@ pub fn interval_at(k: usize) -> Interval
     }
 }
 
+// The cells before this one have every interval over the lines 0 to last.
+pub fn cells_to(last: Line) -> usize
+    requires { ⌜ last .0 ≤ side ⌝ }
+    ensures { λ r. ⌜ r ≡ cellsTo (last .0) ⌝ }
+{
+    last.0 * LINES
+}
+
+// The interval of the cell is in the set.
+pub fn is_on(t: &Table, last: Line, k: usize) -> bool
+    requires { ⌜ Tabled (last .0) (now t) ⌝ }
+    ensures { λ r. ⌜ r ≡ onAt (setOf (last .0) (now (t .entry))) k ⌝ }
+{
+    if cells_to(last) <= k {
+        return false;
+    }
+    t[k] == 1
+}
+
 // It is an interval over the lines 0 to last.
 fn within(last: Line, i: Interval) -> bool
     ensures { λ r. ⌜ r ≡ (proper (spanOf i) && leb (i .right .0) (last .0)) ⌝ }
 {
-    let all = Interval {
-        left: Line(0),
-        right: last,
-    };
-    all.contains(i)
+    Interval::up_to(last).contains(i)
 }
 
 // The table of no interval.
@@ -97,29 +112,14 @@ pub fn take(t: &mut Table, last: Line, i: Interval)
     change(t, last, i, false);
 }
 
-// No interval is in the set. Each begins before the last line, so the rows of cells before it have them all.
-pub fn is_empty(t: &Table, last: Line) -> bool
-    requires { ⌜ Tabled (last .0) (now t) ⌝ }
-    ensures { λ r. ⌜ r ≡ eqb (length (setOf (last .0) (now (t .entry)))) 0 ⌝ }
-{
-    for k in 0..last.0 * LINES {
-        if t[k] == 1 {
-            return false;
-        }
-    }
-    true
-}
-
 // How many intervals the set has.
 pub fn size(t: &Table, last: Line) -> usize
     requires { ⌜ Tabled (last .0) (now t) ⌝ }
     ensures { λ r. ⌜ r ≡ length (setOf (last .0) (now (t .entry))) ⌝ }
 {
-    let mut n = 0;
-    for k in 0..last.0 * LINES {
-        if t[k] == 1 {
-            n += 1;
-        }
+    let mut n: usize = 0;
+    for k in 0..cells_to(last) {
+        n += is_on(t, last, k) as usize;
     }
     n
 }

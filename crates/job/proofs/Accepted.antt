@@ -11,36 +11,21 @@ use lib.Dec.{leb, eqb}
 use lib.ListN.{length, take, drop, length-append, length-drop, drop-of-length-le}
 use lib.Seq.{drop-drop, drop-append-seam, drop-at, take-at, take-add, take-all}
 use borrow.Author.Tests.{eqb-true}
-use Rattle.lists.proofs.Truth.{and-left, and-right, and-both}
 use Rattle.grid.specs.Limits.{rasterRoom}
 use Rattle.grid.specs.declared.raster.Job.{Job}
 use Rattle.text.specs.declared.read.Next.{Next}
 use Rattle.text.proofs.Passes.{passes-inside}
+use Rattle.text.proofs.Lengths.{within-take, within-drop, within-both}
 use Rattle.job.specs.JobText.{shapeLine, rowHead, rowLine, rowOf, rowLines, jobText, IsJob}
 use Rattle.job.specs.Reading.{squaresAt, thenRows, rowsFrom, rasterFrom, judged}
 use Rattle.job.specs.declared.lines.Lines.the-variants.{Ruled}
 use Rattle.job.specs.declared.read.Judged.the-variants.{Fine}
 use Rattle.job.proofs.Lengths.{length-row, length-row-of, longest}
-use Rattle.job.proofs.Shape.{whole-shaped, shaped-whole}
+use Rattle.job.proofs.Shape.{within-three, whole-shaped, shaped-whole}
 use Rattle.job.proofs.Row.{squares?, are-squares, Rowed, rowed-whole, squares-found}
 use Rattle.job.proofs.Rows.{pastRow, row-there, rows-there, length-raster, rows-next, rows-none, rows-ended, ruled-cond}
 use Rattle.job.proofs.Text.{lines-next, lines-none}
 use Rattle.job.proofs.Judging.{Judgement, fine}
-
--- raster bytes that are 0 or 1, of a part and of two lists
-pub squares-take : (n : ℕ) (xs : List ℕ) → squares? xs ≡ true → squares? (take n xs) ≡ true
-squares-take zero xs a = refl
-squares-take (suc n) [] a = refl
-squares-take (suc n) (x ∷ xs) a = and-both (leb x 1) (squares? (take n xs)) (and-left (leb x 1) (squares? xs) a) (squares-take n xs (and-right (leb x 1) (squares? xs) a))
-
-squares-drop : (n : ℕ) (xs : List ℕ) → squares? xs ≡ true → squares? (drop n xs) ≡ true
-squares-drop zero xs a = a
-squares-drop (suc n) [] a = refl
-squares-drop (suc n) (x ∷ xs) a = squares-drop n xs (and-right (leb x 1) (squares? xs) a)
-
-squares-both : (xs ys : List ℕ) → squares? xs ≡ true → squares? ys ≡ true → squares? (xs ++ ys) ≡ true
-squares-both [] ys a b = b
-squares-both (x ∷ xs) ys a b = and-both (leb x 1) (squares? (xs ++ ys)) (and-left (leb x 1) (squares? xs) a) (squares-both xs ys (and-right (leb x 1) (squares? xs) a) b)
 
 -- the rows of a job's text are accepted
 module _ (t : List ℕ) (w h : ℕ) (raster : List ℕ) (full : length raster ≡ w * h) (squares : squares? raster ≡ true) where
@@ -59,7 +44,7 @@ module _ (t : List ℕ) (w h : ℕ) (raster : List ℕ) (full : length raster �
     row-stands =
         record {
           wide = length-row-of w h raster r full l;
-          bytes = squares-take w (drop (r * w) raster) (squares-drop (r * w) raster squares);
+          bytes = within-take 1 w (drop (r * w) raster) (within-drop 1 (r * w) raster squares);
           line = record { past = refl; there = e ∙ lines-next w raster r ∙ ap (line r ++_) (sym rest) };
         }
 
@@ -118,14 +103,14 @@ squares-read : (t : List ℕ) (w r s : ℕ) → squares? (rasterFrom t w r s) �
 unfolding rasterFrom
 squares-read t w zero s = refl
 squares-read t w (suc r) s =
-    squares-both (rasterFrom t w r (pastRow s w r)) (squaresAt t (s + length (rowHead r)) w) (squares-read t w r (pastRow s w r)) (are-squares (take w (drop (s + length (rowHead r)) t)))
+    within-both 1 (rasterFrom t w r (pastRow s w r)) (squaresAt t (s + length (rowHead r)) w) (squares-read t w r (pastRow s w r)) (are-squares (take w (drop (s + length (rowHead r)) t)))
 
 -- a text that is accepted is the text of the job that is read
 module _ (t : List ℕ) (room : ℕ) (job : Job) (spot : ℕ) (j : Judgement t room job spot) where
   abbrev raster : List ℕ
-  raster = rasterFrom t (job .width) (job .height) spot
+  raster = rasterFrom t (job .size .width) (job .size .height) spot
 
-  pub accepted-job : IsJob (job .width) (job .height) (job .allowance) raster
+  pub accepted-job : IsJob (job .size .width) (job .size .height) (job .allowance) raster
   accepted-job =
       record {
         wide = j .sized .wide;
@@ -133,17 +118,17 @@ module _ (t : List ℕ) (room : ℕ) (job : Job) (spot : ℕ) (j : Judgement t r
         tall = j .sized .tall;
         low = j .sized .low;
         allowed = j .allowed;
-        full = length-raster t (job .width) (job .height) 2 spot (j .ruled) ∙ mul-comm (job .height) (job .width);
-        squares = squares-read t (job .width) (job .height) spot;
+        full = length-raster t (job .size .width) (job .size .height) 2 spot (j .ruled) ∙ mul-comm (job .size .height) (job .size .width);
+        squares = squares-read t (job .size .width) (job .size .height) spot;
       }
 
-  pub accepted-text : t ≡ jobText (job .width) (job .height) (job .allowance) raster
+  pub accepted-text : t ≡ jobText (job .size .width) (job .size .height) (job .allowance) raster
   unfolding jobText
   accepted-text =
-      let s = whole-shaped t 0 (job .width) (job .height) (job .allowance) spot (j .shape) in
-      s .line .there
-      ∙ ap (shapeLine (job .width) (job .height) (job .allowance) ++_)
-      (rows-text t (job .width) (job .height) 2 spot [] (j .ruled) ∙ ap (λ (x : List ℕ). rowLines (job .width) x (job .height)) (append-nil raster))
+      let s = whole-shaped t 0 (job .size .width) (job .size .height) (job .allowance) spot (j .shape) in
+      s .there .there
+      ∙ ap (shapeLine (job .size .width) (job .size .height) (job .allowance) ++_)
+      (rows-text t (job .size .width) (job .size .height) 2 spot [] (j .ruled) ∙ ap (λ (x : List ℕ). rowLines (job .size .width) x (job .size .height)) (append-nil raster))
 
 -- and the text of a job is accepted, and read as that job
 module _ (w h k : ℕ) (raster : List ℕ) (j : IsJob w h k raster) where
@@ -161,7 +146,7 @@ module _ (w h k : ℕ) (raster : List ℕ) (j : IsJob w h k raster) where
   unfolding jobText
   spot-inside = omega (arith, length-append (shapeLine w h k) (rowLines w raster h))
 
-  text-judged : (room : ℕ) → rasterRoom ≤ room → Judgement text room (record { width = w; height = h; allowance = k }) spot
+  text-judged : (room : ℕ) → rasterRoom ≤ room → Judgement text room (record { size = record { width = w; height = h }; allowance = k }) spot
   unfolding jobText
   text-judged room holds =
       record {
@@ -170,18 +155,16 @@ module _ (w h k : ℕ) (raster : List ℕ) (j : IsJob w h k raster) where
         shape =
             shaped-whole text 0 w h k spot
             record {
-              width = omega (arith, j .narrow);
-              height = omega (arith, j .low);
-              allowance = omega (arith, j .allowed);
-              line = record { past = sym (zero-add spot); there = ap (shapeLine w h k ++_) (sym rows-follow) };
+              small = within-three w h k (omega (arith, j .narrow)) (omega (arith, j .low)) (omega (arith, j .allowed));
+              there = record { past = sym (zero-add spot); there = ap (shapeLine w h k ++_) (sym rows-follow) };
             };
         sized = record { wide = j .wide; narrow = j .narrow; tall = j .tall; low = j .low };
         allowed = j .allowed;
         ruled = rows-accepted text w h raster (j .full) (j .squares) h 2 spot (le-refl h) spot-inside rows-follow;
       }
 
-  pub text-accepted : (room : ℕ) → rasterRoom ≤ room → judged text room ≡ Fine (record { width = w; height = h; allowance = k }) spot
-  text-accepted room holds = fine text room (record { width = w; height = h; allowance = k }) spot (text-judged room holds)
+  pub text-accepted : (room : ℕ) → rasterRoom ≤ room → judged text room ≡ Fine (record { size = record { width = w; height = h }; allowance = k }) spot
+  text-accepted room holds = fine text room (record { size = record { width = w; height = h }; allowance = k }) spot (text-judged room holds)
 
   pub text-raster : rasterFrom text w h spot ≡ raster
   text-raster =

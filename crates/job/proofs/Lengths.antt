@@ -1,29 +1,21 @@
--- How long the lines and the text of a job are, and that no job's text is longer than 4,613 bytes.
--- Sums of the lengths of their parts; a number below 100 has one digit, or two from 10 on.
+-- How long the lines and the text of a job are, and that no job's text is longer than the room that is asked for it.
+-- Sums of the lengths of their parts; a lesser width, height or allowance has no more digits and squares. The number of bytes stands here alone.
 -- The writer's room, the reader's spots and the longest job use it.
-use mathlib.Core.Path.{_≡_, _∙_}
+use mathlib.Core.Path.{_≡_, refl, _∙_}
 use mathlib.Core.List.{List, [], _∷_, _++_, map}
 use mathlib.Core.Logic.{by-cases}
-use Prim.Native.Nat.{ℕ, zero, suc, _+_, _-_, _*_, _/_, _≤_, _<_}
+use Prim.Native.Nat.{ℕ, zero, suc, _+_, _*_, _≤_, _<_}
 use native.Mathlib.Omega.{arith}
-use native.Mathlib.Nat.{le-refl, mul-le-mul, mul-le-mul-right, mul-comm, suc-mul, zero-mul}
-use native.Mathlib.Decide.{decLt}
+use native.Mathlib.Nat.{le-refl, mul-le-mul-right, mul-comm, suc-mul}
+use native.Mathlib.Decide.{decLe}
 use lib.ListN.{length, drop, length-append, length-take, length-drop}
-use borrow.Author.Tests.{le-leb, lt-leb}
-use Rattle.grid.specs.Limits.{side, allowanceLimit, textRoom}
+use Rattle.grid.specs.Limits.{side, allowanceLimit}
 use Rattle.text.specs.Words.{tab, feed, glyph}
-use Rattle.text.specs.Decimal.{decimal, field}
-use Rattle.text.proofs.Turns.{count-small, count-more, length-map}
-use Rattle.job.specs.JobText.{shapeLine, rowHead, rowLine, rowOf, rowLines, jobText, IsJob, places, textLength}
-
-pub count-places : (n : ℕ) → n < 100 → length (decimal n) ≡ places n
-count-places n h =
-    by-cases (decLt n 10)
-    (λ l. count-small n l ∙ rw (lt-leb 10 n l))
-    (λ l. count-more n (omega arith) ∙ rw (le-leb 10 n (omega arith)) (omega (arith, count-small (n / 10) (omega arith))))
-
-pub places-most : (n : ℕ) → places n ≤ 2
-places-most n = by-cases (decLt n 10) (λ l. rw (lt-leb 10 n l) (omega arith)) (λ l. rw (le-leb 10 n (omega arith)) (omega arith))
+use Rattle.text.specs.Decimal.{decimal, digits}
+use Rattle.text.specs.Line.{fieldRoom}
+use Rattle.text.proofs.Turns.{length-map}
+use Rattle.text.proofs.Lengths.{digits-grow, line-none, line-more}
+use Rattle.job.specs.JobText.{shapeWord, shapeLine, rowHead, rowLine, rowOf, rowLines, jobText, IsJob, rowsLength, textLength, textRoom}
 
 pub length-head : (r : ℕ) → length (rowHead r) ≡ 5 + length (decimal r)
 unfolding rowHead
@@ -34,15 +26,8 @@ unfolding rowLine
 length-row r squares =
     omega (arith, length-append (rowHead r) (map glyph squares ++ (feed ∷ [])), length-append (map glyph squares) (feed ∷ []), length-map glyph squares)
 
-pub length-shape : (w h k : ℕ) → length (shapeLine w h k) ≡ 9 + length (decimal w) + length (decimal h) + length (decimal k)
-unfolding shapeLine
-length-shape w h k =
-    omega (
-      arith,
-      length-append (decimal w) (field h ++ (field k ++ (feed ∷ []))),
-      length-append (decimal h) (field k ++ (feed ∷ [])),
-      length-append (decimal k) (feed ∷ []),
-    )
+pub length-shape : (w h k : ℕ) → length (shapeLine w h k) ≡ length shapeWord + fieldRoom w + fieldRoom h + fieldRoom k + 1
+length-shape w h k = omega (arith, line-more shapeWord w (h ∷ k ∷ []), line-more shapeWord h (k ∷ []), line-more shapeWord k [], line-none shapeWord)
 
 -- a row of a full raster is as long as the width
 pub length-row-of : (w h : ℕ) (raster : List ℕ) (r : ℕ) → length raster ≡ w * h → r < h → length (rowOf w raster r) ≡ w
@@ -51,56 +36,54 @@ length-row-of w h raster r e l =
     omega (arith, length-take w (drop (r * w) raster), length-drop (r * w) raster, suc-mul r w, mul-comm w h)
 
 -- the rows' lines, from row r - 1 down
-pub length-rows : (w h : ℕ) (raster : List ℕ) (r : ℕ) → length raster ≡ w * h → r ≤ h → r ≤ 100 → length (rowLines w raster r) ≡ r * (6 + w) + r + (r - 10)
-unfolding rowLines
-length-rows w h raster zero e l s = omega (arith, zero-mul (6 + w))
-length-rows w h raster (suc r) e l s =
-    let line : List ℕ = rowLine r (rowOf w raster r) in
-    length-append line (rowLines w raster r)
-    ∙ by-cases (decLt r 10)
-    (λ b.
+pub length-rows : (w h : ℕ) (raster : List ℕ) (r : ℕ) → length raster ≡ w * h → r ≤ h → length (rowLines w raster r) ≡ rowsLength w r
+unfolding rowLines rowsLength
+length-rows w h raster zero e l = refl
+length-rows w h raster (suc r) e l =
     omega (
       arith,
+      length-append (rowLine r (rowOf w raster r)) (rowLines w raster r),
       length-row r (rowOf w raster r),
       length-row-of w h raster r e l,
       length-head r,
-      count-small r b,
-      length-rows w h raster r e (omega arith) (omega arith),
-      suc-mul r (6 + w),
-    ))
-    (λ b.
-    omega (
-      arith,
-      length-row r (rowOf w raster r),
-      length-row-of w h raster r e l,
-      length-head r,
-      count-more r (omega arith),
-      count-small (r / 10) (omega arith),
-      length-rows w h raster r e (omega arith) (omega arith),
-      suc-mul r (6 + w),
-    ))
+      length-rows w h raster r e (omega arith),
+    )
 
 -- the length of a job's text, by its numbers alone
 pub length-text : (w h k : ℕ) (raster : List ℕ) → IsJob w h k raster → length (jobText w h k raster) ≡ textLength w h k
-unfolding jobText
+unfolding jobText textLength
 length-text w h k raster j =
-    length-append (shapeLine w h k) (rowLines w raster h)
-    ∙ omega (
-      arith,
-      length-shape w h k,
-      count-places w (omega (arith, j .narrow)),
-      count-places h (omega (arith, j .low)),
-      count-places k (omega (arith, j .allowed)),
-      length-rows w h raster h (j .full) (le-refl h) (omega (arith, j .low)),
-    )
+    length-append (shapeLine w h k) (rowLines w raster h) ∙ omega (arith, length-shape w h k, length-rows w h raster h (j .full) (le-refl h))
+
+-- wider rows and more of them are longer
+wider : (w w′ h : ℕ) → w ≤ w′ → rowsLength w h ≤ rowsLength w′ h
+unfolding rowsLength
+wider w w′ zero l = omega arith
+wider w w′ (suc r) l = omega (arith, wider w w′ r l)
+
+higher : (w h h′ : ℕ) → h ≤ h′ → rowsLength w h ≤ rowsLength w h′
+unfolding rowsLength
+higher w h zero l = let e : h ≡ 0 = omega arith in rw e (omega arith)
+higher w h (suc h′) l =
+    by-cases (decLe h h′)
+    (λ s. omega (arith, higher w h h′ s))
+    (λ s. let e : h ≡ suc h′ = omega arith in rw e (le-refl (rowsLength w (suc h′))))
 
 -- no job's text is longer than the room that is asked for it
 pub longest : (w h k : ℕ) (raster : List ℕ) → IsJob w h k raster → length (jobText w h k raster) ≤ textRoom
+unfolding textLength
 longest w h k raster j =
-    let wide : 6 + w ≤ 6 + side = omega (arith, j .narrow) in
-    let rows : h * (6 + w) ≤ side * (6 + side) = mul-le-mul (j .low) wide in
-    omega (arith, length-text w h k raster j, places-most w, places-most h, places-most k, j .low)
+    omega (
+      arith,
+      length-text w h k raster j,
+      digits-grow side w (j .narrow),
+      digits-grow side h (j .low),
+      digits-grow allowanceLimit k (j .allowed),
+      wider w side h (j .narrow),
+      higher side h side (j .low),
+    )
 
--- and at the limits it is as long
-pub reached : (raster : List ℕ) → IsJob side side allowanceLimit raster → length (jobText side side allowanceLimit raster) ≡ textRoom
-reached raster j = length-text side side allowanceLimit raster j
+-- "The longest job has 4,613 bytes."
+pub longest-text : textRoom ≡ 4613
+unfolding textLength rowsLength decimal digits
+longest-text = refl

@@ -1,5 +1,4 @@
 pub mod Plus
-pub mod Steps
 pub mod Shape
 pub mod Row
 pub mod Rows

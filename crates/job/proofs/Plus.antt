@@ -2,11 +2,13 @@
 use mathlib.Core.Path.{_≡_, refl}
 use mathlib.Core.List.{List, [], _∷_, _++_}
 use Prim.Native.Nat.{ℕ}
-use Rattle.grid.specs.Answers.{answer}
+use Rattle.grid.specs.Limits.{rasterRoom}
+use Rattle.grid.specs.Answers.{answer, orElse, firstRefusal}
 use Rattle.text.specs.Words.{begins}
 use Rattle.text.specs.Decimal.{digits, decimal, run, value}
-use Rattle.job.specs.JobText.{shapeLine, rowHead, rowLine, rowLines, jobText}
-use Rattle.job.specs.Reading.{shapeAt, rowAt, rowsFrom, rasterFrom, judgedLines, judged}
+use Rattle.text.specs.Line.{line, numbersFrom, lineAt}
+use Rattle.job.specs.JobText.{rowHead, rowLine, rowLines, jobText, rowsLength, textLength}
+use Rattle.job.specs.Reading.{shapeAt, rowAt, rowsFrom, rasterFrom, judged}
 use Rattle.job.specs.declared.read.Judged.the-variants.{Refused, Fine}
 
 abbrev pub plusText : List ℕ
@@ -20,11 +22,11 @@ abbrev pub plusRaster : List ℕ
 plusRaster = 0 ∷ 1 ∷ 0 ∷ 1 ∷ 1 ∷ 1 ∷ 0 ∷ 1 ∷ 0 ∷ []
 
 pub written : jobText 3 3 64 plusRaster ≡ plusText
-unfolding jobText shapeLine rowLines rowLine rowHead decimal digits
+unfolding jobText line rowLines rowLine rowHead decimal digits
 written = refl
 
-pub read : judged plusText 4096 ≡ Fine (record { width = 3; height = 3; allowance = 64 }) 13
-unfolding judged judgedLines shapeAt rowsFrom rowAt shapeLine rowLine rowHead decimal digits run value begins
+pub read : judged plusText rasterRoom ≡ Fine (record { size = record { width = 3; height = 3 }; allowance = 64 }) 13
+unfolding judged orElse firstRefusal shapeAt lineAt numbersFrom line rowsFrom rowAt rowLine rowHead textLength rowsLength decimal digits run value begins
 read = refl
 
 pub raster : rasterFrom plusText 3 3 13 ≡ plusRaster
@@ -32,10 +34,10 @@ unfolding rasterFrom rowHead decimal digits
 raster = refl
 
 -- text past the end, a missing line, a leading zero, a fifth digit
-pub past-end : judged (plusText ++ (10 ∷ [])) 4096 ≡ Refused (answer 11 5 0)
-unfolding judged judgedLines shapeAt rowsFrom rowAt shapeLine rowLine rowHead decimal digits run value begins
+pub past-end : judged (plusText ++ (10 ∷ [])) rasterRoom ≡ Refused (answer 11 5 0)
+unfolding judged orElse firstRefusal shapeAt lineAt numbersFrom line rowsFrom rowAt rowLine rowHead textLength rowsLength decimal digits run value begins
 past-end = refl
 
-pub none-at-all : judged [] 4096 ≡ Refused (answer 11 1 0)
-unfolding judged judgedLines shapeAt rowsFrom rowAt shapeLine rowLine rowHead decimal digits run value begins
+pub none-at-all : judged [] rasterRoom ≡ Refused (answer 11 1 0)
+unfolding judged orElse firstRefusal shapeAt lineAt numbersFrom line rowsFrom rowAt rowLine rowHead textLength rowsLength decimal digits run value begins
 none-at-all = refl

@@ -8,18 +8,19 @@ use native.Mathlib.Omega.{arith}
 use native.Mathlib.Nat.{zero-add}
 use lib.ListN.{length, take, drop, replicate, length-replicate}
 use lib.Seq.{take-at}
-use Rattle.grid.specs.Limits.{side, allowanceLimit, rasterRoom, textRoom}
+use Rattle.grid.specs.Limits.{side, allowanceLimit, rasterRoom}
+use Rattle.grid.specs.declared.answers.Answer.{Answer}
 use Rattle.grid.specs.declared.raster.Job.{Job}
-use Rattle.text.specs.Words.{written}
-use Rattle.job.specs.JobText.{jobText, IsJob, textLength}
+use Rattle.grid.specs.Rooms.{written}
+use Rattle.job.specs.JobText.{jobText, IsJob, textLength, textRoom}
 use Rattle.job.specs.Reading.{rasterFrom, judged, readOutcome, readRoom, ReadJob}
-use Rattle.job.specs.Writing.{writeOutcome, writtenRoom, WriteJob}
+use Rattle.job.specs.Writing.{orWork, notWritten, writtenOut, WriteJob}
 use Rattle.job.specs.declared.read.ReadOutcome.{ReadOutcome}
 use Rattle.job.specs.declared.write.WriteOutcome.{WriteOutcome}
 use Rattle.job.proofs.Lengths.{length-text, longest}
 use Rattle.job.proofs.Row.{squares?}
 use Rattle.job.proofs.Judging.{judged-fine}
-use Rattle.job.proofs.Checking.{checked-fine, fine}
+use Rattle.job.proofs.Checking.{checked-job, job-checked}
 use Rattle.job.proofs.Accepted.{accepted-job, accepted-text, text-accepted, text-raster}
 use Rattle.job.proofs.Outcomes.{ReadDone, read-done, write-done}
 
@@ -45,10 +46,10 @@ done-text : (text room after : List ℕ) (r : ReadOutcome) (job : Job) (spot : �
     → let raster = take (r .width * r .height) after in IsJob (r .width) (r .height) (r .allowance) raster × (text ≡ jobText (r .width) (r .height) (r .allowance) raster)
 done-text text room after r job spot done =
     let j = judged-fine text (length room) (done .found) in
-    let raster : List ℕ = rasterFrom text (job .width) (job .height) spot in
+    let raster : List ℕ = rasterFrom text (job .size .width) (job .size .height) spot in
     let is = accepted-job text (length room) job spot j in
-    let bytes : take (job .width * job .height) after ≡ raster =
-    ap (take (job .width * job .height)) (done .left ∙ front room raster) ∙ take-at raster (drop (length raster) room) (job .width * job .height) (is .full) in
+    let bytes : take (job .size .width * job .size .height) after ≡ raster =
+    ap (take (job .size .width * job .size .height)) (done .left ∙ front room raster) ∙ take-at raster (drop (length raster) room) (job .size .width * job .size .height) (is .full) in
     rw (
       ap (λ (x : ReadOutcome). x .width) (done .outcome),
       ap (λ (x : ReadOutcome). x .height) (done .outcome),
@@ -80,21 +81,21 @@ text-reads {w} {h} {k} {raster} {room} {after} {r} j holds p =
 pub text-writes : {w h k : ℕ} {raster room after : List ℕ} {o : WriteOutcome} → IsJob w h k raster → textRoom ≤ length room → WriteJob w h k raster room o after
     → IsWritten (jobText w h k raster) room o after
 text-writes {w} {h} {k} {raster} {room} {after} {o} j holds p =
-    let found = fine w h k raster (length room) holds j in
-    let outcome = p .outcome ∙ ap (writeOutcome raster) found in
+    let text : List ℕ = jobText w h k raster in
+    let found = job-checked w h k raster (length room) holds j in
+    let outcome = p .outcome ∙ ap (λ (a : Answer). orWork a (notWritten a) (writtenOut (length text))) found in
     record {
       answer = ap (λ (x : WriteOutcome). x .answer) outcome;
       count = ap (λ (x : WriteOutcome). x .length) outcome;
-      bytes = p .left ∙ ap (writtenRoom raster room) found ∙ front room (jobText w h k raster);
+      bytes = p .left ∙ ap (λ (a : Answer). orWork a room (written room 0 text)) found ∙ front room text;
     }
 
 -- and nothing else is written.
 pub writes-text : {w h k : ℕ} {raster room after : List ℕ} {o : WriteOutcome} → WriteJob w h k raster room o after → o .answer ≡ 0
     → IsJob w h k raster × IsWritten (jobText w h k raster) room o after
 writes-text {w} {h} {k} {raster} {room} {after} {o} p z =
-    let d = write-done p z in
-    let c = checked-fine w h k raster (length room) (d .1 .found) in
-    (c .is, text-writes (c .is) (c .holds) p)
+    let c = checked-job w h k raster (length room) (write-done p z) in
+    (c .1, text-writes (c .1) (c .0) p)
 
 -- "A job read from text and written out again is the same text":
 -- what reading accepts, writing does not refuse, and it gives the same bytes.
@@ -153,16 +154,16 @@ one-text {text′} {room′} {after′} {r} p q z e b =
     let q′ : ReadJob text′ room′ r after′ = subst (λ (x : ReadOutcome). ReadJob text′ room′ x after′) (sym e) q in
     reads-text p z .1 ∙ ap (jobText (r .width) (r .height) (r .allowance)) b ∙ sym (reads-text q′ z .1)
 
--- The length that writing answers is the formula's, at most 4,613,
+-- The length that writing answers is the formula's, at most its value at the limits,
 pub written-length : {w h k : ℕ} {raster room after : List ℕ} {o : WriteOutcome} → WriteJob w h k raster room o after → o .answer ≡ 0
     → (o .length ≡ textLength w h k) × (o .length ≤ textRoom)
 written-length {w} {h} {k} {raster} p z =
     let t = writes-text p z in
     (t .1 .count ∙ length-text w h k raster (t .0), omega (arith, t .1 .count, longest w h k raster (t .0)))
 
--- which a job of 64 by 64 with an allowance of 64 has, whatever its raster;
+-- which a job at the limits has, whatever its raster;
 pub at-the-limits : {raster room after : List ℕ} {o : WriteOutcome} → length raster ≡ side * side → squares? raster ≡ true → textRoom ≤ length room
-    → WriteJob side side allowanceLimit raster room o after → (o .answer ≡ 0) × (o .length ≡ 4613)
+    → WriteJob side side allowanceLimit raster room o after → (o .answer ≡ 0) × (o .length ≡ textRoom)
 at-the-limits {raster} full squares holds p =
     let j : IsJob side side allowanceLimit raster =
     record { wide = omega arith; narrow = omega arith; tall = omega arith; low = omega arith; allowed = omega arith; full = full; squares = squares } in
@@ -175,6 +176,6 @@ no-copper zero = refl
 no-copper (suc n) = no-copper n
 
 pub longest-reached : (raster : List ℕ)
-    × ((room after : List ℕ) (o : WriteOutcome) → textRoom ≤ length room → WriteJob side side allowanceLimit raster room o after → (o .answer ≡ 0) × (o .length ≡ 4613))
+    × ((room after : List ℕ) (o : WriteOutcome) → textRoom ≤ length room → WriteJob side side allowanceLimit raster room o after → (o .answer ≡ 0) × (o .length ≡ textRoom))
 longest-reached =
     (replicate (side * side) 0, λ room after o holds p. at-the-limits (length-replicate (side * side) zero) (no-copper (side * side)) holds p)

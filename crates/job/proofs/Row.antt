@@ -23,7 +23,8 @@ use Rattle.text.proofs.Turns.{length-map}
 use Rattle.text.proofs.Passes.{Passes, passes-stands, stands-passes, passes-inside, passes-both, passes-first, passes-second, found-spot, word-passes, passes-word, ends, field-passes, passes-field, body-passes, passes-body}
 use Rattle.job.specs.JobText.{rowWord, rowHead, rowLine}
 use Rattle.job.specs.Reading.{squaresAt, rowAt}
-use Rattle.job.proofs.Steps.{onNext, onNumber, went, counted}
+use Rattle.text.specs.Steps.{onNext, onNumber}
+use Rattle.text.proofs.Steps.{went, counted}
 
 -- raster bytes are 0 or 1
 abbrev pub squares? : List ℕ → Bool

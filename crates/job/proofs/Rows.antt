@@ -11,8 +11,9 @@ use lib.ListN.{length, take, drop, length-append}
 use borrow.Author.Tests.{eq-eqb, ne-eqb}
 use Rattle.text.specs.declared.read.Next.{Next}
 use Rattle.text.specs.declared.read.Next.the-variants.{Spot, Nothing}
-use Rattle.text.specs.Words.{square, written}
-use Rattle.text.proofs.Writing.{written-none, written-first}
+use Rattle.text.specs.Words.{square}
+use Rattle.grid.specs.Rooms.{written}
+use Rattle.grid.proofs.Writing.{written-none, written-first}
 use Rattle.text.proofs.Passes.{passes-inside}
 use Rattle.job.specs.JobText.{rowHead, rowLine}
 use Rattle.job.specs.Reading.{squaresAt, rowAt, thenRows, rowsFrom, rasterFrom}

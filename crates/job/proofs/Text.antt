@@ -6,8 +6,8 @@ use Prim.Native.Nat.{ℕ, suc, _+_, _-_, _*_, _≤_, _<_}
 use native.Mathlib.Omega.{arith}
 use native.Mathlib.Nat.{mul-le-mul-right, mul-comm}
 use lib.ListN.{length, take, drop, length-append}
-use Rattle.text.specs.Words.{written, Written}
-use Rattle.text.proofs.Writing.{written-then}
+use Rattle.grid.specs.Rooms.{written, Written}
+use Rattle.grid.proofs.Writing.{written-then}
 use Rattle.job.specs.JobText.{rowLine, rowOf, rowLines}
 use Rattle.job.proofs.Rows.{row-fits}
 

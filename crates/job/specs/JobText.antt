@@ -1,14 +1,15 @@
 -- The one text of a job (document 01, 'Job text'). A raster is a list of bytes, row 0 first.
 use mathlib.Core.Path.{_≡_}
-use mathlib.Core.Bool.{true, cond}
+use mathlib.Core.Bool.{true}
 use mathlib.Core.List.{List, [], _∷_, _++_, map}
-use Prim.Native.Nat.{ℕ, _+_, _-_, _*_, _≤_}
+use Prim.Native.Nat.{ℕ, zero, suc, _+_, _*_, _≤_}
 use lib.Dec.{leb}
 use lib.ListN.{length, take, drop}
 use Rattle.lists.specs.Lists.{all, gather, down}
 use Rattle.grid.specs.Limits.{side, allowanceLimit}
 use Rattle.text.specs.Words.{tab, feed, glyph}
 use Rattle.text.specs.Decimal.{field}
+use Rattle.text.specs.Line.{line, fieldRoom}
 
 -- "Numbers are decimal, 0 to 9999"
 abbrev pub numberLimit : ℕ
@@ -21,9 +22,9 @@ shapeWord = 115 ∷ 104 ∷ 97 ∷ 112 ∷ 101 ∷ []
 abbrev pub rowWord : List ℕ
 rowWord = 114 ∷ 111 ∷ 119 ∷ []
 
--- "Lines end with one line feed; fields are parted by one tab. Line 1: `shape`, width, height, allowance."
-unfoldable pub shapeLine : ℕ → ℕ → ℕ → List ℕ
-shapeLine w h k = shapeWord ++ (field w ++ (field h ++ (field k ++ (feed ∷ []))))
+-- "Line 1: `shape`, width, height, allowance."
+abbrev pub shapeLine : ℕ → ℕ → ℕ → List ℕ
+shapeLine w h k = line shapeWord (w ∷ h ∷ k ∷ [])
 
 -- "`row`, row number, and width characters, `#` copper and `.` none"
 unfoldable pub rowHead : ℕ → List ℕ
@@ -53,9 +54,14 @@ pub record IsJob (w h k : ℕ) (raster : List ℕ) : Type 0 where
   pub full : length raster ≡ w * h
   pub squares : all (λ b. leb b 1) raster ≡ true
 
--- the length of a job's text: line 1 has 9 bytes beside its digits, a row's line 6 beside its digits and squares; from row 10 on a row has a second digit
-abbrev pub places : ℕ → ℕ
-places n = cond (leb 10 n) 2 1
+-- the length of a job's text, by its numbers alone: line 1, and the lines of rows h - 1 to 0 with their squares
+unfoldable pub rowsLength : ℕ → ℕ → ℕ
+rowsLength w zero = 0
+rowsLength w (suc r) = length rowWord + fieldRoom r + 1 + w + 1 + rowsLength w r
 
-abbrev pub textLength : ℕ → ℕ → ℕ → ℕ
-textLength w h k = 9 + places w + places h + places k + (h * (6 + w) + h + (h - 10))
+unfoldable pub textLength : ℕ → ℕ → ℕ → ℕ
+textLength w h k = length shapeWord + fieldRoom w + fieldRoom h + fieldRoom k + 1 + rowsLength w h
+
+-- the longest job: its width, height and allowance are the limits
+abbrev pub textRoom : ℕ
+textRoom = textLength side side allowanceLimit

@@ -1,50 +1,55 @@
 -- Writing a job (document 01, 'Answers by number'): the checks in their order, and then the one text of the job.
 use mathlib.Core.Path.{_≡_}
-use mathlib.Core.List.{List}
+use mathlib.Core.Bool.{cond}
+use mathlib.Core.List.{List, [], _∷_}
 use Prim.Native.Nat.{ℕ}
-use lib.Dec.{leb}
+use lib.Dec.{leb, eqb}
 use lib.ListN.{length}
-use Rattle.grid.specs.Limits.{allowanceLimit, textRoom}
-use Rattle.grid.specs.Answers.{answer, done, refused, sizeOut, rasterLength, textRoomShort, allowanceOut, badByte}
-use Rattle.grid.specs.Raster.{sizeFits, lengthFits, badPlace}
+use Rattle.grid.specs.Limits.{allowanceLimit}
+use Rattle.grid.specs.Answers.{done, check, checkAt, firstRefusal, sizeOut, rasterLength, textRoomShort, allowanceOut, badByte}
+use Rattle.grid.specs.Raster.{sizeFits, lengthFits, badSquare}
+use Rattle.grid.specs.Rooms.{written}
+use Rattle.grid.specs.declared.answers.Answer.{Answer}
 use Rattle.grid.specs.declared.raster.Job.{Job}
-use Rattle.grid.specs.declared.raster.Place.{Place}
-use Rattle.grid.specs.declared.raster.Place.the-variants.{Nowhere, At}
-use Rattle.text.specs.Words.{written}
-use Rattle.job.specs.JobText.{jobText}
-use Rattle.job.specs.Reading.{unless}
-use Rattle.job.specs.declared.write.Checked.{Checked}
-use Rattle.job.specs.declared.write.Checked.the-variants.{Refused, Fine}
+use Rattle.job.specs.JobText.{jobText, textRoom}
 use Rattle.job.specs.declared.write.WriteOutcome.{WriteOutcome}
 
--- "a raster byte not 0 or 1 | column, row of the first in raster order"
-abbrev pub checkPlace : Place → Job → Checked
-checkPlace Nowhere job = Fine job
-checkPlace (At column row) job = Refused (answer badByte (column .0) (row .0))
+-- width w, height h, allowance k, and the length of the room; "Writing a job: 1, 2, 5, 6, 7 (a broken column can be written)"
+abbrev pub writeChecks : ℕ → ℕ → ℕ → List ℕ → ℕ → List Answer
+writeChecks w h k raster room =
+    check (sizeFits w h) sizeOut
+    ∷ check (lengthFits w h (length raster)) rasterLength
+    ∷ check (leb textRoom room) textRoomShort
+    ∷ check (leb k allowanceLimit) allowanceOut
+    ∷ checkAt (badSquare w raster) badByte
+    ∷ []
 
--- "Writing a job: 1, 2, 5, 6, 7 (a broken column can be written)"
-unfoldable pub checked : ℕ → ℕ → ℕ → List ℕ → ℕ → Checked
-checked w h k raster room =
-    unless (sizeFits w h) (Refused (refused sizeOut))
-    (unless (lengthFits w h (length raster)) (Refused (refused rasterLength))
-    (unless (leb textRoom room) (Refused (refused textRoomShort))
-    (unless (leb k allowanceLimit) (Refused (refused allowanceOut))
-    (checkPlace (badPlace w raster) (record { width = w; height = h; allowance = k })))))
+unfoldable pub checked : ℕ → ℕ → ℕ → List ℕ → ℕ → Answer
+checked w h k raster room = firstRefusal (writeChecks w h k raster room)
 
-abbrev pub textOf : Job → List ℕ → List ℕ
-textOf job raster = jobText (job .width) (job .height) (job .allowance) raster
+-- the work of what passed every check, or what a refusal gives
+abbrev pub orWork {ℓ} : {A : Type ℓ} → Answer → A → A → A
+orWork a refusal work = cond (eqb (a .number) (done .number)) work refusal
 
 -- "On a refusal every count .. returned as 0"
-abbrev pub writeOutcome : List ℕ → Checked → WriteOutcome
-writeOutcome raster (Refused a) = record { answer = a .number; «place_x» = a .x; «place_y» = a .y; length = 0 }
-writeOutcome raster (Fine job) = record { answer = done .number; «place_x» = done .x; «place_y» = done .y; length = length (textOf job raster) }
+abbrev pub notWritten : Answer → WriteOutcome
+notWritten a = record { answer = a .number; «place_x» = a .x; «place_y» = a .y; length = 0 }
 
--- "and nothing is written"; on success the text, and every byte past it as it was
-abbrev pub writtenRoom : List ℕ → List ℕ → Checked → List ℕ
-writtenRoom raster room (Refused a) = room
-writtenRoom raster room (Fine job) = written room 0 (textOf job raster)
+abbrev pub writtenOut : ℕ → WriteOutcome
+writtenOut n = record { answer = done .number; «place_x» = done .x; «place_y» = done .y; length = n }
 
--- what `keekaboor_write_job` answers, and leaves in the text room
+-- what `keekaboor_write_job` answers, and leaves in the text room: "nothing is written" on a refusal, else the text, and every byte past it as it was
 pub record WriteJob (w h k : ℕ) (raster room : List ℕ) (r : WriteOutcome) (after : List ℕ) : Type 0 where
-  pub outcome : r ≡ writeOutcome raster (checked w h k raster (length room))
-  pub left : after ≡ writtenRoom raster room (checked w h k raster (length room))
+  pub outcome : r ≡ orWork (checked w h k raster (length room)) (notWritten (checked w h k raster (length room))) (writtenOut (length (jobText w h k raster)))
+  pub left : after ≡ orWork (checked w h k raster (length room)) room (written room 0 (jobText w h k raster))
+
+-- For inner functions alone: the checks that need no look at the raster's bytes, and the one that does; a job's text by its struct.
+abbrev pub sizeChecks : ℕ → ℕ → ℕ → ℕ → ℕ → List Answer
+sizeChecks w h k n room =
+    check (sizeFits w h) sizeOut ∷ check (lengthFits w h n) rasterLength ∷ check (leb textRoom room) textRoomShort ∷ check (leb k allowanceLimit) allowanceOut ∷ []
+
+abbrev pub byteChecks : ℕ → List ℕ → List Answer
+byteChecks w raster = checkAt (badSquare w raster) badByte ∷ []
+
+abbrev pub textOf : Job → List ℕ → List ℕ
+textOf job raster = jobText (job .size .width) (job .size .height) (job .allowance) raster

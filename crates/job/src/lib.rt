@@ -2,4 +2,5 @@
 pub mod lines;
 pub mod read;
 pub mod reader;
+pub mod room;
 pub mod write;

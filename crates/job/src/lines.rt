@@ -6,9 +6,10 @@ ghost use Rattle.grid.specs.Limits.{side};
 ghost use Rattle.job.specs.JobText.{rowHead};
 ghost use Rattle.job.specs.Reading.{shapeAt, rowAt, rowsFrom};
 use grid::lines::Row;
-use grid::raster::Job;
+use grid::raster::Size;
 use text::glyphs::FEED;
 use text::glyphs::TAB;
+use text::line::read_line;
 use text::read::Next;
 use text::read::Number;
 use text::read::read_body;
@@ -40,26 +41,15 @@ pub enum Lines {
 pub fn read_shape(text: &[u8], spot: usize) -> Shape
     ensures { λ r. ⌜ r ≡ shapeAt (now (text .entry)) spot ⌝ }
 {
-    let Next::Spot(first) = read_word(text, spot, b"shape") else {
-        return Shape::Nothing;
-    };
-    let Number::Value(width, second) = read_field(text, first, NUMBER_LIMIT) else {
-        return Shape::Nothing;
-    };
-    let Number::Value(height, third) = read_field(text, second, NUMBER_LIMIT) else {
-        return Shape::Nothing;
-    };
-    let Number::Value(allowance, end) = read_field(text, third, NUMBER_LIMIT) else {
-        return Shape::Nothing;
-    };
-    let Next::Spot(next) = read_byte(text, end, FEED) else {
-        return Shape::Nothing;
-    };
-    Shape::Line {
-        width,
-        height,
-        allowance,
-        next,
+    let mut numbers = [0u64; 3];
+    match read_line(text, spot, b"shape", NUMBER_LIMIT, &mut numbers) {
+        Next::Spot(next) => Shape::Line {
+            width: numbers[0],
+            height: numbers[1],
+            allowance: numbers[2],
+            next,
+        },
+        Next::Nothing => Shape::Nothing,
     }
 }
 
@@ -87,14 +77,14 @@ pub fn read_row(text: &[u8], spot: usize, width: usize, row: Row) -> Next
 }
 
 // The lines of all rows, from the top row down.
-pub fn judge_rows(text: &[u8], spot: usize, job: Job) -> Lines
-    requires { ⌜ job .height ≤ side ⌝ }
-    ensures { λ r. ⌜ r ≡ rowsFrom (now (text .entry)) (job .width) (job .height) 2 spot ⌝ }
+pub fn judge_rows(text: &[u8], spot: usize, size: Size) -> Lines
+    requires { ⌜ size .height ≤ side ⌝ }
+    ensures { λ r. ⌜ r ≡ rowsFrom (now (text .entry)) (size .width) (size .height) 2 spot ⌝ }
 {
-    let width = job.width;
+    let width = size.width;
     let mut passed: usize = 0;
     let mut at = spot;
-    let mut rows = job.height;
+    let mut rows = size.height;
     while 0 < rows {
         rows -= 1;
         let Next::Spot(next) = read_row(text, at, width, Row(rows)) else {

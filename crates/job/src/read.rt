@@ -1,12 +1,13 @@
 // Reading a job: everything is judged before a byte is written.
 ghost use mathlib.Core.Path.{_≡_};
-ghost use Rattle.text.specs.Words.{written};
+ghost use Rattle.grid.specs.Rooms.{written};
 ghost use Rattle.job.specs.Reading.{rasterFrom, judgedLines, judged, readOutcome, Copies, ReadJob};
 use crate::lines::Lines;
 use crate::lines::Shape;
 use crate::lines::row_head;
 use crate::reader::rows_of;
 use crate::reader::shape_of;
+use crate::room::TEXT_ROOM;
 use grid::answers::ALLOWANCE_OUT;
 use grid::answers::Answer;
 use grid::answers::BAD_LINE;
@@ -16,9 +17,9 @@ use grid::answers::SIZE_OUT;
 use grid::answers::TEXT_LONG;
 use grid::limits::ALLOWANCE_LIMIT;
 use grid::limits::RASTER_ROOM;
-use grid::limits::TEXT_ROOM;
 use grid::lines::Row;
 use grid::raster::Job;
+use grid::raster::Size;
 use grid::raster::size_fits;
 use text::write::put_squares;
 
@@ -51,18 +52,21 @@ fn judge_lines(text: &[u8]) -> Judged
     else {
         return Judged::Refused(Answer::at(BAD_LINE, 1, 0));
     };
-    if !size_fits(width, height) {
-        return Judged::Refused(Answer::refused(SIZE_OUT));
+    let sizes = Answer::done()
+        .unless(size_fits(width, height), SIZE_OUT)
+        .unless(allowance <= ALLOWANCE_LIMIT as u64, ALLOWANCE_OUT);
+    if sizes.number != DONE {
+        return Judged::Refused(sizes);
     }
-    if allowance > ALLOWANCE_LIMIT as u64 {
-        return Judged::Refused(Answer::refused(ALLOWANCE_OUT));
-    }
-    let job = Job {
+    let size = Size {
         width: width as usize,
         height: height as usize,
+    };
+    let job = Job {
+        size,
         allowance: allowance as usize,
     };
-    match rows_of(text, next, job) {
+    match rows_of(text, next, size) {
         Lines::Bad(line) => Judged::Refused(Answer::at(BAD_LINE, line as u64, 0)),
         Lines::Ruled => Judged::Fine(job, next),
     }
@@ -71,23 +75,23 @@ fn judge_lines(text: &[u8]) -> Judged
 fn judge(text: &[u8], room: usize) -> Judged
     ensures { λ r. ⌜ r ≡ judged (now (text .entry)) room ⌝ }
 {
-    if room < RASTER_ROOM {
-        return Judged::Refused(Answer::refused(RASTER_ROOM_SHORT));
-    }
-    if TEXT_ROOM < text.len() {
-        return Judged::Refused(Answer::refused(TEXT_LONG));
+    let lent = Answer::done()
+        .unless(RASTER_ROOM <= room, RASTER_ROOM_SHORT)
+        .unless(text.len() <= TEXT_ROOM, TEXT_LONG);
+    if lent.number != DONE {
+        return Judged::Refused(lent);
     }
     judge_lines(text)
 }
 
 // The squares of the rows' lines as raster bytes, from the top row down.
-fn copy_rows(text: &[u8], spot: usize, job: Job, room: &mut [u8])
-    requires { ⌜ Copies (now text) spot job (now room) ⌝ }
-    ensures { λ _. ⌜ now (room .exit) ≡ written (now (room .entry)) 0 (rasterFrom (now (text .entry)) (job .width) (job .height) spot) ⌝ }
+fn copy_rows(text: &[u8], spot: usize, size: Size, room: &mut [u8])
+    requires { ⌜ Copies (now text) spot size (now room) ⌝ }
+    ensures { λ _. ⌜ now (room .exit) ≡ written (now (room .entry)) 0 (rasterFrom (now (text .entry)) (size .width) (size .height) spot) ⌝ }
 {
-    let width = job.width;
+    let width = size.width;
     let mut at = spot;
-    let mut left = job.height;
+    let mut left = size.height;
     while 0 < left {
         left -= 1;
         let body = at + row_head(Row(left));
@@ -112,8 +116,8 @@ fn outcome(judged: Judged) -> ReadOutcome
             answer: DONE,
             place_x: 0,
             place_y: 0,
-            width: job.width as u64,
-            height: job.height as u64,
+            width: job.size.width as u64,
+            height: job.size.height as u64,
             allowance: job.allowance as u64,
         },
     }
@@ -127,6 +131,6 @@ pub extern "C" fn keekaboor_read_job(text: &[u8], raster_room: &mut [u8]) -> Rea
     let Judged::Fine(job, spot) = judged else {
         return outcome(judged);
     };
-    copy_rows(text, spot, job, raster_room);
+    copy_rows(text, spot, job.size, raster_room);
     outcome(judged)
 }

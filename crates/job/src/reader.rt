@@ -9,7 +9,7 @@ use crate::lines::Lines;
 use crate::lines::Shape;
 use crate::lines::judge_rows;
 use crate::lines::read_shape;
-use grid::raster::Job;
+use grid::raster::Size;
 
 pub struct Reader<'a> {
     pub text: &'a [u8],
@@ -41,11 +41,11 @@ impl<'a> Reader<'a> {
     }
 
     // The lines of the rows, from its spot on.
-    pub fn rows(self, job: Job) -> Lines
-        requires { ⌜ job .height ≤ side ⌝ }
-        ensures { λ r. ⌜ r ≡ rowsFrom (now (self .entry .text)) (job .width) (job .height) 2 (self .entry .spot) ⌝ }
+    pub fn rows(self, size: Size) -> Lines
+        requires { ⌜ size .height ≤ side ⌝ }
+        ensures { λ r. ⌜ r ≡ rowsFrom (now (self .entry .text)) (size .width) (size .height) 2 (self .entry .spot) ⌝ }
     {
-        judge_rows(self.text, self.spot, job)
+        judge_rows(self.text, self.spot, size)
     }
 }
 
@@ -58,9 +58,9 @@ pub fn shape_of(text: &[u8]) -> Shape
 }
 
 // The lines of the rows of a text, from a spot on.
-pub fn rows_of(text: &[u8], spot: usize, job: Job) -> Lines
-    requires { ⌜ job .height ≤ side ⌝ }
-    ensures { λ r. ⌜ r ≡ rowsFrom (now (text .entry)) (job .width) (job .height) 2 spot ⌝ }
+pub fn rows_of(text: &[u8], spot: usize, size: Size) -> Lines
+    requires { ⌜ size .height ≤ side ⌝ }
+    ensures { λ r. ⌜ r ≡ rowsFrom (now (text .entry)) (size .width) (size .height) 2 spot ⌝ }
 {
-    Reader::new(text).moved(spot).rows(job)
+    Reader::new(text).moved(spot).rows(size)
 }

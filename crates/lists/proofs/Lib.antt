@@ -5,6 +5,7 @@ pub mod Ranges
 pub mod Pairs
 pub mod Counting
 pub mod Searches
+pub mod Passes
 pub mod Positions
 pub mod Related
 pub mod Keyed

@@ -1,5 +1,5 @@
 -- The final set (rule 5).
-use mathlib.Core.List.{List, map}
+use mathlib.Core.List.{List, [], _∷_, map}
 use mathlib.Core.Option.{Option, none, some}
 use Prim.Native.Nat.{ℕ, zero, suc}
 use lib.ListN.{length}
@@ -29,3 +29,12 @@ reduced n (suc k) s = elim (leftmost n s) [ none ↦ s | some d ↦ reduced n k 
 -- each reduction takes one interval away, so there are no more of them than intervals
 unfoldable pub final : ℕ → List Interval → List Interval
 final n s = reduced n (length s) s
+
+-- the brackets of at most k reductions, in order
+unfoldable pub traced : ℕ → ℕ → List Interval → List Interval
+traced n zero s = []
+traced n (suc k) s = elim (leftmost n s) [ none ↦ [] | some d ↦ d ∷ traced n k (reduce n s d) ]
+
+-- the brackets that rule 5 reduces, in order: "While some bracket is dependent, reduce the minimal bracket with the least right line."
+unfoldable pub trace : ℕ → List Interval → List Interval
+trace n s = traced n (length s) s

@@ -3,10 +3,10 @@
 use mathlib.Core.Path.{_≡_, refl}
 use mathlib.Core.List.{List, [], _∷_, _++_}
 use Prim.Native.Nat.{ℕ}
-use Rattle.cover.specs.Records.{flashesIn, marksIn}
 use Rattle.cover.specs.declared.entry.Outcome.{Outcome}
 use Rattle.text.specs.Decimal.{digits, decimal}
-use Rattle.printed.specs.Printed.{printed, line, flashLines, markLines}
+use Rattle.text.specs.Line.{line, recordLines}
+use Rattle.printed.specs.Printed.{printed}
 
 -- answer, place, flash count, mark count, copper number
 abbrev outcome : ℕ → ℕ → ℕ → ℕ → ℕ → ℕ → Outcome
@@ -23,7 +23,7 @@ fiveLines =
 
 -- the rooms hold sevens past their records, which no line shows
 pub plus-printed : printed (outcome 0 0 0 2 2 6) (0 ∷ 2 ∷ 1 ∷ 1 ∷ 1 ∷ 1 ∷ 0 ∷ 2 ∷ 7 ∷ 7 ∷ 7 ∷ 7 ∷ []) (0 ∷ 1 ∷ 1 ∷ 2 ∷ 7 ∷ 7 ∷ []) ≡ fiveLines
-unfolding printed line flashLines markLines flashesIn marksIn decimal digits
+unfolding printed line recordLines decimal digits
 plus-printed = refl
 
 -- "refused 9 0 0", "mark 0 2", "mark 1 0"
@@ -31,11 +31,11 @@ pub short-printed : printed (outcome 9 0 0 0 2 0) (7 ∷ 7 ∷ 7 ∷ 7 ∷ []) (
     ≡ (114 ∷ 101 ∷ 102 ∷ 117 ∷ 115 ∷ 101 ∷ 100 ∷ 9 ∷ 57 ∷ 9 ∷ 48 ∷ 9 ∷ 48 ∷ 10 ∷ [])
     ++ (109 ∷ 97 ∷ 114 ∷ 107 ∷ 9 ∷ 48 ∷ 9 ∷ 50 ∷ 10 ∷ [])
     ++ (109 ∷ 97 ∷ 114 ∷ 107 ∷ 9 ∷ 49 ∷ 9 ∷ 48 ∷ 10 ∷ [])
-unfolding printed line flashLines markLines flashesIn marksIn decimal digits
+unfolding printed line recordLines decimal digits
 short-printed = refl
 
 -- "refused 8 1 1"
 pub broken-printed : printed (outcome 8 1 1 0 0 0) (7 ∷ 7 ∷ 7 ∷ 7 ∷ []) (7 ∷ 7 ∷ [])
     ≡ 114 ∷ 101 ∷ 102 ∷ 117 ∷ 115 ∷ 101 ∷ 100 ∷ 9 ∷ 56 ∷ 9 ∷ 49 ∷ 9 ∷ 49 ∷ 10 ∷ []
-unfolding printed line flashLines markLines flashesIn marksIn decimal digits
+unfolding printed line recordLines decimal digits
 broken-printed = refl

@@ -2,17 +2,14 @@
 -- Throughout, f and m are what the flash room and the mark room hold.
 use mathlib.Core.Bool.{cond}
 use mathlib.Core.List.{List, [], _∷_, _++_}
-use Prim.Native.Nat.{ℕ, _+_, _*_, _≤_}
+use Prim.Native.Nat.{ℕ, _+_, _-_, _*_, _^_, _≤_}
 use lib.Dec.{eqb}
 use lib.ListN.{length}
-use Rattle.lists.specs.Lists.{gather}
 use Rattle.grid.specs.Limits.{side, flashRecord, markRecord}
 use Rattle.grid.specs.Answers.{done, allowanceShort}
-use Rattle.grid.specs.Squares.{Rectangle, Square}
-use Rattle.cover.specs.Records.{flashBytes, markBytes, flashesIn, marksIn}
 use Rattle.cover.specs.declared.entry.Outcome.{Outcome}
-use Rattle.text.specs.Words.{feed, Written}
-use Rattle.text.specs.Decimal.{field}
+use Rattle.grid.specs.Rooms.{Written}
+use Rattle.text.specs.Line.{line, recordLines, fieldRoom}
 
 -- `cover`, `flash`, `mark`, `refused`
 abbrev pub coverWord : List ℕ
@@ -27,31 +24,20 @@ markWord = 109 ∷ 97 ∷ 114 ∷ 107 ∷ []
 abbrev pub refusedWord : List ℕ
 refusedWord = 114 ∷ 101 ∷ 102 ∷ 117 ∷ 115 ∷ 101 ∷ 100 ∷ []
 
--- "Lines end with one line feed; fields are parted by one tab."
-unfoldable pub line : List ℕ → List ℕ → List ℕ
-line word numbers = word ++ (gather field numbers ++ (feed ∷ []))
-
 -- "The fields of `cover` are the flash count and the copper number;"
 abbrev pub coverLine : Outcome → List ℕ
 coverLine o = line coverWord (o .flashes ∷ o .copper ∷ [])
 
--- "those of `flash` and `mark` are the record bytes in decimal."
-abbrev pub flashLine : Rectangle → List ℕ
-flashLine q = line flashWord (flashBytes q)
+-- "those of `flash` and `mark` are the record bytes in decimal.": a line for each record, in the order of the room
+abbrev pub flashLines : ℕ → List ℕ → List ℕ
+flashLines n f = recordLines flashWord flashRecord n f
 
-abbrev pub markLine : Square → List ℕ
-markLine s = line markWord (markBytes s)
+abbrev pub markLines : ℕ → List ℕ → List ℕ
+markLines n m = recordLines markWord markRecord n m
 
 -- "A refusal prints `refused`, its number and the two place numbers;"
 abbrev pub refusedLine : Outcome → List ℕ
 refusedLine o = line refusedWord (o .answer ∷ o .«place_x» ∷ o .«place_y» ∷ [])
-
--- a line for each record, in the order of the room
-unfoldable pub flashLines : ℕ → List ℕ → List ℕ
-flashLines n f = gather flashLine (flashesIn n f)
-
-unfoldable pub markLines : ℕ → List ℕ → List ℕ
-markLines n m = gather markLine (marksIn n m)
 
 -- "after number 9 the mark lines follow."
 abbrev pub marksAfter : Outcome → List ℕ → List ℕ
@@ -63,15 +49,18 @@ printed o f m =
     (coverLine o ++ (flashLines (o .flashes) f ++ markLines (o .marks) m))
     (refusedLine o ++ marksAfter o m)
 
--- The longest line of each kind: its word, a tab and the most digits for each field (a count up to 64, a number of 64 bits, a byte), and the line feed.
+-- The longest line of each kind: its word, a tab and the most digits for each field (a count, a number of 64 bits, a byte), and the line feed.
+abbrev pub byteRoom : ℕ
+byteRoom = fieldRoom (2 ^ 8 - 1)
+
 abbrev pub coverLineRoom : ℕ
-coverLineRoom = length coverWord + (1 + 2) + (1 + 20) + 1
+coverLineRoom = length coverWord + fieldRoom side + fieldRoom (2 ^ 64 - 1) + 1
 
 abbrev pub flashLineRoom : ℕ
-flashLineRoom = length flashWord + flashRecord * (1 + 3) + 1
+flashLineRoom = length flashWord + flashRecord * byteRoom + 1
 
 abbrev pub markLineRoom : ℕ
-markLineRoom = length markWord + markRecord * (1 + 3) + 1
+markLineRoom = length markWord + markRecord * byteRoom + 1
 
 -- the longest print
 abbrev pub printRoom : ℕ

@@ -1,3 +1,2 @@
 // An outcome as lines of text.
-pub mod lines;
 pub mod outcome;

@@ -1,24 +1,27 @@
 // The cover program's printed form of an outcome.
-ghost use Prim.Native.Nat.{_+_, _≤_};
+ghost use Prim.Native.Nat.{_+_, _*_, _≤_};
 ghost use lib.ListN.{length};
-ghost use Rattle.text.specs.Words.{Written};
-ghost use Rattle.printed.specs.Printed.{coverLine, refusedLine, Printable, Prints};
-use crate::lines::put_flash_lines;
-use crate::lines::put_line;
-use crate::lines::put_mark_lines;
+ghost use Rattle.grid.specs.Rooms.{Written};
+ghost use Rattle.grid.specs.Limits.{flashRecord, markRecord};
+ghost use Rattle.printed.specs.Printed.{coverLine, flashLines, markLines, refusedLine, Printable, Prints};
 use cover::entry::Outcome;
 use grid::answers::ALLOWANCE_SHORT;
 use grid::answers::DONE;
 use grid::limits::FLASH_RECORD;
 use grid::limits::MARK_RECORD;
 use grid::limits::SIDE;
+use text::line::put_line;
+use text::line::put_record_lines;
+use text::write::BYTE_DIGITS;
+use text::write::NUMBER_DIGITS;
+use text::write::SIDE_DIGITS;
 
 // The longest line of each kind: its word, a tab and the most digits for each field, and the line feed.
-const COVER_LINE_ROOM: usize = 5 + (1 + 2) + (1 + 20) + 1;
+const COVER_LINE_ROOM: usize = 5 + (1 + SIDE_DIGITS) + (1 + NUMBER_DIGITS) + 1;
 
-const FLASH_LINE_ROOM: usize = 5 + FLASH_RECORD * (1 + 3) + 1;
+const FLASH_LINE_ROOM: usize = 5 + FLASH_RECORD * (1 + BYTE_DIGITS) + 1;
 
-const MARK_LINE_ROOM: usize = 4 + MARK_RECORD * (1 + 3) + 1;
+const MARK_LINE_ROOM: usize = 4 + MARK_RECORD * (1 + BYTE_DIGITS) + 1;
 
 // The longest print.
 pub const PRINT_ROOM: usize = COVER_LINE_ROOM + SIDE * FLASH_LINE_ROOM + SIDE * MARK_LINE_ROOM;
@@ -37,6 +40,20 @@ fn put_refused_line(out: &mut [u8], spot: usize, outcome: Outcome) -> usize
 {
     let numbers = [outcome.answer, outcome.place_x, outcome.place_y];
     put_line(out, spot, b"refused", &numbers)
+}
+
+fn put_flash_lines(out: &mut [u8], spot: usize, records: &[u8], count: usize) -> usize
+    requires { ⌜ (count * flashRecord ≤ length (now records)) × (spot + length (flashLines count (now records)) ≤ length (now out)) ⌝ }
+    ensures { λ r. ⌜ Written (now (out .entry)) spot (flashLines count (now (records .entry))) r (now (out .exit)) ⌝ }
+{
+    put_record_lines(out, spot, b"flash", records, FLASH_RECORD, count)
+}
+
+fn put_mark_lines(out: &mut [u8], spot: usize, records: &[u8], count: usize) -> usize
+    requires { ⌜ (count * markRecord ≤ length (now records)) × (spot + length (markLines count (now records)) ≤ length (now out)) ⌝ }
+    ensures { λ r. ⌜ Written (now (out .entry)) spot (markLines count (now (records .entry))) r (now (out .exit)) ⌝ }
+{
+    put_record_lines(out, spot, b"mark", records, MARK_RECORD, count)
 }
 
 pub fn print_outcome(outcome: Outcome, flash_room: &[u8], mark_room: &[u8], out: &mut [u8]) -> usize

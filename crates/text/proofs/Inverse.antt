@@ -13,9 +13,9 @@ use borrow.Author.Tests.{le-leb, leb-true}
 use Rattle.lists.specs.Lists.{all}
 use Rattle.lists.proofs.Truth.{bcase, and-left, and-right, and-both}
 use Rattle.text.specs.declared.read.Number.the-variants.{Value}
-use Rattle.text.specs.Words.{Written}
+use Rattle.grid.specs.Rooms.{Written}
 use Rattle.text.specs.Decimal.{isDigit, decimal, run, value, plain, number, numberAt}
-use Rattle.text.proofs.Writing.{from-written, after-written}
+use Rattle.grid.proofs.Writing.{from-written, after-written}
 use Rattle.text.proofs.Decimals.{value-decimal, all-decimal, plain-decimal, decimal-plain}
 
 -- the digits at the front are digits, and what follows them is none

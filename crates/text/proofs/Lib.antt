@@ -1,7 +1,14 @@
 pub mod Stands
-pub mod Writing
 pub mod Decimals
 pub mod Inverse
 pub mod Turns
 pub mod Passes
+pub mod Onward
+pub mod Ahead
+pub mod Steps
+pub mod Lines
+pub mod Filling
+pub mod Signs
+pub mod Integers
+pub mod Lengths
 pub mod Determined

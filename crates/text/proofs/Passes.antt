@@ -89,7 +89,7 @@ module _ (t : List ℕ) (i limit n : ℕ) {j : ℕ} where
   passes-number : n ≤ limit → Passes t i (decimal n) j → run (drop j t) ≡ [] → numberAt t i limit ≡ Value n j
   passes-number small p e = stated-read t i limit n j (record { small = small; past = p .past; there = p .there; ends = e })
 
-then-value : (x : Next) (read : ℕ → Number) {n j : ℕ} → thenNumber x read ≡ Value n j → (at : ℕ) × (x ≡ Spot at) × (read at ≡ Value n j)
+pub then-value : (x : Next) (read : ℕ → Number) {n j : ℕ} → thenNumber x read ≡ Value n j → (at : ℕ) × (x ≡ Spot at) × (read at ≡ Value n j)
 then-value (Spot at) read e = (at, refl, e)
 then-value Nothing read e = let z : _≡_ {A = ℕ} 0 1 = cc in absurd (omega arith)
 

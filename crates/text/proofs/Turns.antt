@@ -15,16 +15,13 @@ use Rattle.lists.proofs.Truth.{bcase}
 use Rattle.text.specs.declared.read.Next.{Next}
 use Rattle.text.specs.declared.read.Next.the-variants.{Spot, Nothing}
 use Rattle.text.specs.declared.read.Number.the-variants.{Value, Nothing as NoNumber}
-use Rattle.text.specs.Words.{tab, wordAt, isSquare, bodyAt, written}
+use Rattle.text.specs.Words.{tab, wordAt, isSquare, bodyAt}
+use Rattle.grid.specs.Rooms.{written}
 use Rattle.text.specs.Decimal.{digit, isDigit, decimal, run, value, plain, readOn, digitsAt, numberAt, thenNumber, fieldAt}
 use Rattle.text.proofs.Stands.{word-none, word-ended, word-other, word-same, body-none, body-ended, body-other, body-same}
-use Rattle.text.proofs.Writing.{written-none, written-next, written-last}
+use Rattle.grid.proofs.Writing.{drop-next, write-turn, write-done, written-none, written-last}
 use Rattle.text.proofs.Decimals.{decimal-small, decimal-more, by-tenths}
 use Rattle.text.proofs.Inverse.{run-front, number-true}
-
--- the list from k on: the element at k, and the list from k + 1 on
-pub drop-next : (xs : List ℕ) (k : ℕ) → k < length xs → drop k xs ≡ getD xs k 0 ∷ drop (k + 1) xs
-drop-next xs k h = drop-cons xs k 0 h ∙ ap (λ (n : ℕ). getD xs k 0 ∷ drop n xs) (sym (add-one k))
 
 -- a word
 module _ (t : List ℕ) (i : ℕ) (w : List ℕ) (k : ℕ) where
@@ -98,18 +95,6 @@ count-small n h = ap length (decimal-small n h)
 
 pub count-more : (n : ℕ) → 10 ≤ n → length (decimal n) ≡ length (decimal (n / 10)) + 1
 count-more n h = ap length (decimal-more n h) ∙ length-append (decimal (n / 10)) (digit (n % 10) ∷ [])
-
--- a writing, byte by byte from the front
-pub write-turn : (room : List ℕ) (spot k b : ℕ) (bs rest : List ℕ) → bs ≡ b ∷ rest → spot + k + length bs ≤ length room
-    → written room (spot + k) bs ≡ written (set room (spot + k) b) (spot + (k + 1)) rest
-write-turn room spot k b bs rest e h =
-    let n : spot + k + 1 ≡ spot + (k + 1) = omega arith in
-    ap (written room (spot + k)) e
-    ∙ written-next room (spot + k) b rest (omega (arith, ap length e))
-    ∙ ap (λ (i : ℕ). written (set room (spot + k) b) i rest) n
-
-pub write-done : (room : List ℕ) (spot k : ℕ) (bs : List ℕ) → bs ≡ [] → written room (spot + k) bs ≡ room
-write-done room spot k bs e = ap (written room (spot + k)) e ∙ written-none room (spot + k)
 
 -- the same with every byte changed by f
 pub length-map : (f : ℕ → ℕ) (xs : List ℕ) → length (map f xs) ≡ length xs

@@ -1,7 +1,6 @@
--- What stands in a text at a spot, and what a room holds after a writing. A text is a list of bytes; a spot counts the bytes before it.
-use mathlib.Core.Path.{_≡_}
+-- What stands in a text at a spot. A text is a list of bytes; a spot counts the bytes before it.
 use mathlib.Core.Bool.{Bool, true, false, cond, _&&_, _||_}
-use mathlib.Core.List.{List, [], _∷_, _++_}
+use mathlib.Core.List.{List, [], _∷_}
 use Prim.Native.Nat.{ℕ, _+_}
 use lib.Dec.{leb, eqb}
 use lib.ListN.{length, take, drop}
@@ -57,12 +56,3 @@ isSquare c = eqb c copperGlyph || eqb c noneGlyph
 -- "width characters, `#` copper and `.` none"
 unfoldable pub bodyAt : List ℕ → ℕ → ℕ → Next
 bodyAt text spot width = found (leb width (length (drop spot text)) && all isSquare (take width (drop spot text))) (spot + width)
-
--- the room with the bytes from the spot on, and every other byte as it was
-unfoldable pub written : List ℕ → ℕ → List ℕ → List ℕ
-written room spot bytes = take spot room ++ (bytes ++ drop (spot + length bytes) room)
-
--- what a writing answers, and leaves
-pub record Written (room : List ℕ) (spot : ℕ) (bytes : List ℕ) (next : ℕ) (after : List ℕ) : Type 0 where
-  pub past : next ≡ spot + length bytes
-  pub left : after ≡ written room spot bytes

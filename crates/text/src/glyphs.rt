@@ -3,6 +3,8 @@ pub const TAB: u8 = b'\t';
 
 pub const FEED: u8 = b'\n';
 
+pub const MINUS: u8 = b'-';
+
 pub const COPPER: u8 = b'#';
 
 pub const NONE: u8 = b'.';

@@ -3,22 +3,14 @@ ghost use mathlib.Core.Path.{_≡_};
 ghost use mathlib.Core.List.{[], _∷_, map};
 ghost use Prim.Native.Nat.{_+_, _≤_, _<_};
 ghost use lib.ListN.{length};
-ghost use Rattle.text.specs.Words.{Written, chosen, glyph, square};
+ghost use Rattle.text.specs.Words.{chosen, glyph, square};
+ghost use Rattle.grid.specs.Rooms.{Written};
 ghost use Rattle.text.specs.Decimal.{decimal, field};
 use crate::glyphs::COPPER;
 use crate::glyphs::NONE;
 use crate::glyphs::TAB;
 use crate::glyphs::ZERO;
-
-pub fn put_word(room: &mut [u8], spot: usize, word: &[u8]) -> usize
-    requires { ⌜ spot + length (now word) ≤ length (now room) ⌝ }
-    ensures { λ r. ⌜ Written (now (room .entry)) spot (now (word .entry)) r (now (room .exit)) ⌝ }
-{
-    for k in 0..word.len() {
-        room[spot + k] = word[k];
-    }
-    spot + word.len()
-}
+use grid::limits::SIDE;
 
 pub fn put_byte(room: &mut [u8], spot: usize, byte: u8) -> usize
     requires { ⌜ spot < length (now room) ⌝ }
@@ -60,6 +52,16 @@ pub fn put_squares(room: &mut [u8], spot: usize, body: &[u8]) -> usize
 {
     put_chosen(room, spot, body, COPPER, 1, 0)
 }
+
+// The most digits of a byte, of a number of 64 bits, and of a count up to the greatest width.
+pub const BYTE_DIGITS: usize = 3;
+
+pub const NUMBER_DIGITS: usize = 20;
+
+pub const SIDE_DIGITS: usize = 1
+    + (SIDE >= 10) as usize
+    + (SIDE >= 100) as usize
+    + (SIDE >= 1000) as usize;
 
 // How many digits a number has.
 pub fn digit_count(value: u64) -> usize

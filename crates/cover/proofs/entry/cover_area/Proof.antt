@@ -4,51 +4,52 @@ use borrow.Author.Needs.{needs}
 use lib.ListN.{length}
 use Rattle.grid.proofs.Edges.{number}
 use Rattle.intervals.specs.Table.{setOf}
-use Rattle.cover.proofs.Turns.{width-tabled}
+use Rattle.cover.proofs.MarkTurns.{width-tabled}
 use Rattle.cover.proofs.Worked.{work-tabled, work-short, work-refused, work-done}
 use Rattle.cover.proofs.entry.cover_area.Statement.{statement}
 use Rattle.cover.proofs.entry.cover_area.Tie as tie
 
+-- where the function began
+abbrev start : tie.After-start-area → tie.Start
+start c = c .before .before .before .before .before .before .before .before .before
+
 size-requires : tie.Need-size-requires
 size-requires c κs =
     let a = c .before .before in
-    let s = a .before .before .before .before .before .before .before .before in
-    width-tabled (ap number (c .last-line .ensures)) (work-tabled _ _ _ (s .pre .0 .narrow) (a .start-area .ensures .1))
+    width-tabled (ap number (c .last-line .ensures)) (work-tabled _ _ _ (start a .pre .0 .narrow) (a .start-area .ensures .1))
 
 -- how many intervals the final set has
-counted : (c : tie.After-size) → let a = c .before .before .before in let s = a .before .before .before .before .before .before .before .before in
-    c .size .result ≡ length (setOf (s .args .job .width) (a .start-area .last .1 .1 .1 .0))
+counted : (c : tie.After-size2) → let a = c .before .before .before in
+    c .size2 .result ≡ length (setOf (start a .args .job .size .width) (a .start-area .last .1 .1 .1 .0))
 counted c =
     let a = c .before .before .before in
-    c .size .ensures ∙ ap (λ n. length (setOf n (a .start-area .last .1 .1 .1 .0))) (ap number (c .before .last-line .ensures))
+    c .size2 .ensures ∙ ap (λ n. length (setOf n (a .start-area .last .1 .1 .1 .0))) (ap number (c .before .last-line .ensures))
 
 returns : tie.Need-returns
 returns c =
-    let m = c .before .before in
+    let m = c .before .before .before in
     let t = m .before .before .before .before .before in
     let z = t .before .before in
     let a = z .before .before .before in
-    let s = a .before .before .before .before .before .before .before .before in
-    work-refused _ _ _ (s .pre .0 .narrow) (a .start-area .ensures .1) (counted z) (t .if1 .taken) (m .mark-area .ensures)
+    work-refused _ _ _ (start a .pre .0 .narrow) (a .start-area .ensures .1) (counted z) (t .if1 .taken) (c .short .ensures) (m .mark-area .ensures)
 
 write-flashes-requires : tie.Need-write-flashes-requires
 write-flashes-requires c κs =
     let z = c .before .before .before .before in
     let a = z .before .before .before in
-    let s = a .before .before .before .before .before .before .before .before in
+    let s = start a in
     let n = s .pre .0 .narrow in
     let q = a .start-area .ensures .1 in
     (s .pre .0, (work-tabled _ _ _ n q, work-short _ _ _ n q, s .pre .1 .1))
 
 returns-2 : tie.Need-returns-2
 returns-2 c =
-    let m = c .before .before in
+    let m = c .before .before .before in
     let f = m .before .before .before .before .before .before in
     let e = f .before .before .before in
     let z = e .before .before in
     let a = z .before .before .before in
-    let s = a .before .before .before .before .before .before .before .before in
-    work-done _ _ _ (s .pre .0 .narrow) (a .start-area .ensures .1) (counted z) (e .if1 .left) (f .write-flashes .ensures) (m .mark-area2 .ensures)
+    work-done _ _ _ (start a .pre .0 .narrow) (a .start-area .ensures .1) (counted z) (e .if1 .left) (c .covered .ensures) (f .write-flashes .ensures) (m .mark-area2 .ensures)
 
 pub cover-area-spec : {M : Type 1} → statement M
 cover-area-spec =
@@ -61,9 +62,11 @@ cover-area-spec =
     size-requires
     (λ c. search needs)
     (λ c κs. search needs)
+    (λ c κs. search needs)
     (λ c. search needs)
     returns
     write-flashes-requires
+    (λ c κs. search needs)
     (λ c κs. search needs)
     (λ c. search needs)
     (λ c. search needs)

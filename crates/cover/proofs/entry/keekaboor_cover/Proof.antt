@@ -1,8 +1,12 @@
 -- `keekaboor_cover` meets its contract: the checks in document 01's order, then the work.
+use mathlib.Core.Path.{sym, ap, _∙_}
 use borrow.Author.Needs.{needs}
 use lib.ListN.{length}
-use Rattle.grid.specs.Raster.{Sized}
-use Rattle.cover.proofs.Refusals.{Passed, first-passed, gives-first, gives-second, gives-worked}
+use Rattle.grid.specs.Code.{Sized}
+use Rattle.grid.specs.declared.answers.Answer.{Answer}
+use Rattle.grid.proofs.Chain.{chain-passed}
+use Rattle.cover.proofs.Checks.{Passed, sizes-passed}
+use Rattle.cover.proofs.Refusals.{gives-first, gives-second, gives-worked}
 use Rattle.cover.proofs.entry.keekaboor_cover.Statement.{statement}
 use Rattle.cover.proofs.entry.keekaboor_cover.Tie as tie
 
@@ -11,10 +15,11 @@ passed : (c : tie.Else1) → let g = c .before .before .before .before .before .
     Passed (g .width) (g .height) (g .allowance) (length (g .raster .now)) (length (g .flash-room .now)) (length (g .mark-room .now))
 passed c =
     let g = c .before .before .before .before .before .before .args in
-    first-passed _ _ _ (g .raster .now) (g .flash-room .now) (g .mark-room .now) (c .before .before .sizes-checked .ensures) (c .if1 .left)
+    sizes-passed _ _ _ (length (g .raster .now)) (length (g .flash-room .now)) (length (g .mark-room .now))
+    (chain-passed _ (sym (ap (λ (a : Answer). a .number) (c .before .before .sizes-checked .ensures)) ∙ c .if1 .left))
 
 sized : (c : tie.Else1) → let g = c .before .before .before .before .before .before .args in
-    Sized (record { width = g .width; height = g .height; allowance = g .allowance }) (g .raster .now)
+    Sized (record { width = g .width; height = g .height }) (g .raster .now)
 sized c = let p = passed c in record { wide = p .wide .0; narrow = p .wide .1; tall = p .tall .0; low = p .tall .1; full = p .full }
 
 returns : tie.Need-returns

@@ -7,9 +7,10 @@ use lib.ListN.{take, replicate, length-replicate}
 use Rattle.method.specs.Strike.{marked}
 use Rattle.grid.specs.Limits.{side}
 use Rattle.grid.proofs.Edges.{number}
-use Rattle.cover.specs.Code.{areaIn, noted, marksNoted}
-use Rattle.cover.proofs.Started.{starting-tabled, starting-set}
-use Rattle.cover.proofs.Stored.{as-written}
+use Rattle.grid.specs.Code.{areaIn}
+use Rattle.cover.specs.Code.{noted, marksNoted}
+use Rattle.cover.proofs.StartingByCell.{starting-tabled, starting-set}
+use Rattle.cover.proofs.RecordsBehind.{as-written}
 use Rattle.cover.proofs.ByColumn.{marks-noted}
 use Rattle.cover.proofs.entry.mark_area.Statement.{statement}
 use Rattle.cover.proofs.entry.mark_area.Tie as tie
@@ -36,9 +37,9 @@ returns c =
     let n = l .before .before .before in
     let s = n .before .before .before .before .before .before in
     let z = s .pre .0 in
-    let a = areaIn (s .args .job) (s .args .raster .now) in
-    let w = s .args .job .width in
-    let h = s .args .job .height in
+    let a = areaIn (s .args .size) (s .args .raster .now) in
+    let w = s .args .size .width in
+    let h = s .args .size .height in
     let e = ap number (l .last-line .ensures) in
     let r = n .note-marks .ensures .by-column in
     as-written

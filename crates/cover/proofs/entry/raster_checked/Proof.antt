@@ -1,47 +1,44 @@
--- `raster_checked` meets its contract: the first place that a check finds.
-use mathlib.Core.Path.{_≡_, sym, _∙_}
+-- `raster_checked` meets its contract: the two checks asked in turn are the chain.
+use mathlib.Core.Path.{_≡_, refl, ap, _∙_}
+use mathlib.Core.List.{[], _∷_}
+use mathlib.Core.Option.{Option, none, some}
 use borrow.Author.Needs.{needs}
-use Rattle.grid.specs.Answers.{done, brokenColumn}
-use Rattle.grid.specs.Raster.{brokenPlace}
-use Rattle.cover.specs.Code.{areaIn, answerFrom, rasterAnswer}
-use Rattle.cover.proofs.Refusals.{fails-at, fails-nowhere}
+use Prim.Native.Nat.{ℕ}
+use Rattle.grid.specs.Squares.{Square}
+use Rattle.grid.specs.Answers.{checkAt, badByte, brokenColumn}
+use Rattle.grid.specs.Code.{areaIn, placeOf, squareIn}
+use Rattle.grid.specs.Raster.{badSquare, brokenSquare}
+use Rattle.grid.specs.declared.raster.Place.{Place}
+use Rattle.grid.proofs.Chain.{asked, in-turn, checkAt-plain}
+use Rattle.cover.specs.Code.{rasterChecks}
 use Rattle.cover.proofs.entry.raster_checked.Statement.{statement}
 use Rattle.cover.proofs.entry.raster_checked.Tie as tie
 
--- no byte is bad
-good : (c : tie.After-enum-told) → let g = c .before .before .before .before .args in
-    rasterAnswer (g .job .width) (g .job .height) (g .raster .now) ≡ answerFrom (brokenPlace (areaIn (g .job) (g .raster .now)) (g .job .width) (g .job .height)) brokenColumn done
-good c = fails-nowhere _ _ _ (sym (c .before .before .bad-byte .ensures) ∙ c .enum-told .given .1)
+-- what was found, as a check
+found-check : (n : ℕ) (o : Option Square) {p : Place} → p ≡ placeOf o → checkAt (squareIn p) n ≡ checkAt o n
+found-check n o e = ap (λ (q : Place). checkAt (squareIn q) n) e ∙ ap (λ z. checkAt z n) (there o)
+  where
+    there : (z : Option Square) → squareIn (placeOf z) ≡ z
+    there none = refl
+    there (some s) = refl
 
 returns : tie.Need-returns
 returns c =
-    let k = c .before .before in
-    c .at .ensures ∙ sym (fails-at _ _ _ (sym (k .before .before .bad-byte .ensures) ∙ k .c .given .1))
-
-returns-2 : tie.Need-returns-2
-returns-2 c =
-    let k = c .before .before in
-    let b = k .before .before in
-    c .at2 .ensures ∙ sym (good (b .before) ∙ fails-at _ _ _ (sym (b .broken .ensures) ∙ k .c2 .given .1))
-
-returns-3 : tie.Need-returns-3
-returns-3 c =
-    let b = c .before .before .before in
-    c .done .ensures ∙ sym (good (b .before) ∙ fails-nowhere _ _ _ (sym (b .broken .ensures) ∙ c .before .enum-told2 .given .1))
+    let b = c .before .before in
+    let g = b .before .before .before .before .args in
+    let bad = badSquare (g .size .width) (g .raster .now) in
+    let broken = brokenSquare (areaIn (g .size) (g .raster .now)) (g .size .width) (g .size .height) in
+    let one = asked [] (b .before .before .done .ensures) (b .found .ensures) (found-check badByte bad (b .before .bad-byte .ensures)) in
+    asked (_ ∷ []) one (c .found2 .ensures) (found-check brokenColumn broken (c .before .broken .ensures))
+    ∙ in-turn (rasterChecks (g .size .width) (g .size .height) (g .raster .now)) (checkAt-plain bad 6, (checkAt-plain broken 7, tt))
 
 pub raster-checked-spec : {M : Type 1} → statement M
 raster-checked-spec =
     tie.close
     (tie.spec
     (λ c κs. search needs)
-    (λ c. search needs)
     (λ c κs. search needs)
-    returns
-    (λ c. search needs)
     (λ c κs. search needs)
-    (λ c. search needs)
     (λ c κs. search needs)
-    returns-2
-    (λ c. search needs)
     (λ c κs. search needs)
-    returns-3)
+    returns)

@@ -4,8 +4,8 @@ use borrow.Author.Needs.{needs}
 use Rattle.method.specs.Final.{final}
 use Rattle.grid.proofs.Edges.{number}
 use Rattle.intervals.specs.Table.{setOf, tableOf}
-use Rattle.cover.proofs.Started.{starting-tabled, starting-set}
-use Rattle.cover.proofs.Turns.{width-tabled}
+use Rattle.cover.proofs.StartingByCell.{starting-tabled, starting-set}
+use Rattle.cover.proofs.MarkTurns.{width-tabled}
 use Rattle.cover.proofs.entry.start_area.Statement.{statement}
 use Rattle.cover.proofs.entry.start_area.Tie as tie
 
@@ -26,7 +26,7 @@ returns c =
       t .starting .ensures,
       c .final-set .ensures
           ∙ (λ z. tableOf (final (e z) (setOf (e z) (y .copy .last .1 .0))))
-          ∙ ap (λ x. tableOf (final (s .args .job .width) x)) (starting-set _ _ _ (s .pre .0 .narrow) (y .copy .ensures ∙ t .starting .ensures)),
+          ∙ ap (λ x. tableOf (final (s .args .size .width) x)) (starting-set _ _ _ (s .pre .0 .narrow) (y .copy .ensures ∙ t .starting .ensures)),
     )
 
 pub start-area-spec : {M : Type 1} → statement M

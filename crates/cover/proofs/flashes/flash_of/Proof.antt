@@ -4,7 +4,7 @@ use borrow.Author.Needs.{needs}
 use Rattle.grid.specs.declared.lines.Column.{Column}
 use Rattle.grid.specs.declared.lines.Row.{Row}
 use Rattle.cover.specs.Flashes.{flash}
-use Rattle.cover.proofs.Told.{run-told, none-told}
+use Rattle.cover.proofs.Variants.{run-told, none-told}
 use Rattle.cover.proofs.flashes.flash_of.Statement.{statement}
 use Rattle.cover.proofs.flashes.flash_of.Tie as tie
 

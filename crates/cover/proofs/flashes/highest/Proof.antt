@@ -8,22 +8,22 @@ use borrow.Author.Needs.{needs}
 use Rattle.lists.specs.Lists.{first, down}
 use Rattle.grid.specs.Lines.{row, spanOf}
 use Rattle.grid.specs.declared.lines.Interval.{Interval}
-use Rattle.grid.specs.declared.raster.Job.{Job}
+use Rattle.grid.specs.declared.raster.Size.{Size}
 use Rattle.cover.specs.Slices.{copperAlong}
 use Rattle.cover.specs.Flashes.{flash, rowFound}
-use Rattle.cover.specs.Code.{areaIn}
-use Rattle.cover.proofs.Searched.{downFrom, down-all, down-found, down-next, down-none}
+use Rattle.grid.specs.Code.{areaIn}
+use Rattle.lists.proofs.Passes.{downFrom, down-all, down-found, down-next, down-none}
 use Rattle.cover.proofs.flashes.highest.Statement.{statement}
 use Rattle.cover.proofs.flashes.highest.Tie as tie
 
-abbrev copper : Job → List ℕ → Interval → ℕ → Bool
-copper job raster i y = copperAlong (areaIn job raster) y (spanOf i)
+abbrev copper : Size → List ℕ → Interval → ℕ → Bool
+copper size raster i y = copperAlong (areaIn size raster) y (spanOf i)
 
 abbrev Inv-loop : tie.InvT-loop
-Inv-loop job raster i left₀ left = first (copper job raster i) (down (job .height)) ≡ downFrom (copper job raster i) left
+Inv-loop size raster i left₀ left = first (copper size raster i) (down (size .height)) ≡ downFrom (copper size raster i) left
 
 abbrev μ-loop : tie.MeasureT-loop
-μ-loop job raster i left₀ left = left
+μ-loop size raster i left₀ left = left
 
 returns : tie.Need-returns Inv-loop μ-loop
 unfolding flash

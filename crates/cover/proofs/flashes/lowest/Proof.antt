@@ -8,28 +8,28 @@ use borrow.Author.Needs.{needs}
 use Rattle.lists.specs.Lists.{first, upTo}
 use Rattle.grid.specs.Lines.{row, spanOf}
 use Rattle.grid.specs.declared.lines.Interval.{Interval}
-use Rattle.grid.specs.declared.raster.Job.{Job}
+use Rattle.grid.specs.declared.raster.Size.{Size}
 use Rattle.cover.specs.Slices.{copperAlong}
 use Rattle.cover.specs.Flashes.{flash, rowFound}
-use Rattle.cover.specs.Code.{areaIn}
-use Rattle.cover.proofs.Searched.{upFrom, up-all, up-here, up-on, up-end}
+use Rattle.grid.specs.Code.{areaIn}
+use Rattle.lists.proofs.Passes.{upFrom, up-all, up-here, up-on, up-end}
 use Rattle.cover.proofs.flashes.lowest.Statement.{statement}
 use Rattle.cover.proofs.flashes.lowest.Tie as tie
 
-abbrev copper : Job → List ℕ → Interval → ℕ → Bool
-copper job raster i y = copperAlong (areaIn job raster) y (spanOf i)
+abbrev copper : Size → List ℕ → Interval → ℕ → Bool
+copper size raster i y = copperAlong (areaIn size raster) y (spanOf i)
 
 abbrev Inv-loop : tie.InvT-loop
-Inv-loop job raster i y₀ y-end y =
-    (first (copper job raster i) (upTo (job .height)) ≡ upFrom (copper job raster i) (job .height) y) × (y-end ≡ job .height)
+Inv-loop size raster i y₀ y-end y =
+    (first (copper size raster i) (upTo (size .height)) ≡ upFrom (copper size raster i) (size .height) y) × (y-end ≡ size .height)
 
 abbrev μ-loop : tie.MeasureT-loop
-μ-loop job raster i y₀ y-end y = y-end - y
+μ-loop size raster i y₀ y-end y = y-end - y
 
 loop-holds : tie.Need-loop-holds Inv-loop μ-loop
 loop-holds c =
     let g = c .before .args in
-    (up-all (copper (g .job) (g .raster .now) (g .i)) _, omega arith)
+    (up-all (copper (g .size) (g .raster .now) (g .i)) _, omega arith)
 
 returns : tie.Need-returns Inv-loop μ-loop
 unfolding flash

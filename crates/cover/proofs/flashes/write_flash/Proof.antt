@@ -4,8 +4,8 @@ use native.Mathlib.Omega.{arith}
 use borrow.Author.Needs.{needs}
 use Rattle.grid.specs.Lines.{spanOf}
 use Rattle.cover.specs.Code.{rectangleOf, Drawn}
-use Rattle.cover.proofs.Drawn.{flash-drawn, area-small}
-use Rattle.cover.proofs.Stored.{one-added}
+use Rattle.cover.proofs.FlashBounds.{flash-drawn, area-small}
+use Rattle.cover.proofs.RecordsBehind.{one-added}
 use Rattle.cover.proofs.flashes.write_flash.Statement.{statement}
 use Rattle.cover.proofs.flashes.write_flash.Tie as tie
 
@@ -32,7 +32,8 @@ add-t12 c =
 returns : tie.Need-returns
 returns c =
     let p = c .before .before .before .before .before in
-    one-added (p .before .before .flash-of .ensures) (c .before .area .ensures) (p .put-flash .ensures)
+    let d = p .before .before .before .before .before .pre .1 .1 in
+    one-added (omega (arith, d .short)) (omega (arith, d .lent)) (p .before .before .flash-of .ensures) (c .before .area .ensures) (p .put-flash .ensures)
 
 pub write-flash-spec : {M : Type 1} → statement M
 write-flash-spec =

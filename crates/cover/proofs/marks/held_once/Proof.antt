@@ -10,9 +10,10 @@ use lib.Dec.{eqb}
 use Rattle.lists.specs.Lists.{count}
 use Rattle.method.specs.Intervals.{holds}
 use Rattle.method.specs.Strike.{heldOnce}
+use Rattle.grid.proofs.Edges.{number}
 use Rattle.intervals.specs.Table.{setOf}
 use Rattle.cover.specs.Code.{onceOf}
-use Rattle.cover.proofs.Searched.{upFrom, up-all, up-here, up-on, up-end}
+use Rattle.lists.proofs.Passes.{upFrom, up-all, up-here, up-on, up-end}
 use Rattle.cover.proofs.marks.held_once.Statement.{statement}
 use Rattle.cover.proofs.marks.held_once.Tie as tie
 
@@ -27,7 +28,7 @@ abbrev μ-loop : tie.MeasureT-loop
 
 loop-holds : tie.Need-loop-holds Inv-loop μ-loop
 unfolding heldOnce
-loop-holds c = (up-all (once (c .args .last .0) (c .args .t .now)) _, omega arith)
+loop-holds c = let g = c .before .args in (up-all (once (g .last .0) (g .t .now)) _, ap number (c .column-after .ensures))
 
 returns : tie.Need-returns Inv-loop μ-loop
 returns c =
@@ -48,6 +49,7 @@ held-once-spec =
     (tie.spec
     Inv-loop
     μ-loop
+    (λ c κs. search needs)
     loop-holds
     (λ c κs. search needs)
     returns

@@ -1,7 +1,7 @@
 -- `mark_row` meets its contract: the row that `find` gives, where it gives one.
 use borrow.Author.Needs.{needs}
 use Rattle.cover.specs.Slices.{markRow}
-use Rattle.cover.proofs.Told.{in-told, never-told}
+use Rattle.cover.proofs.Variants.{in-told, never-told}
 use Rattle.cover.proofs.marks.mark_row.Statement.{statement}
 use Rattle.cover.proofs.marks.mark_row.Tie as tie
 

@@ -5,7 +5,7 @@ use Rattle.method.specs.Final.{final}
 use Rattle.method.specs.Strike.{heldOnce}
 use Rattle.intervals.specs.Table.{setOf, tableOf}
 use Rattle.cover.specs.Code.{onceOf}
-use Rattle.cover.proofs.Turns.{as-tabled, final-tabled, final-held}
+use Rattle.cover.proofs.MarkTurns.{as-tabled, final-tabled, final-held}
 use Rattle.cover.proofs.marks.next_column.Statement.{statement}
 use Rattle.cover.proofs.marks.next_column.Tie as tie
 

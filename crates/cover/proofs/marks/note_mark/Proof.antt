@@ -14,15 +14,15 @@ use Rattle.grid.specs.declared.lines.Row.{Row}
 use Rattle.grid.proofs.Edges.{number}
 use Rattle.intervals.specs.Table.{setOf, Tabled}
 use Rattle.cover.specs.Marks.{mark}
-use Rattle.cover.specs.Code.{areaIn}
-use Rattle.cover.proofs.Told.{once-told, not-once-told, found-told, nothing-told}
-use Rattle.cover.proofs.Drawn.{mark-low}
-use Rattle.cover.proofs.Turns.{never-nothing, turn-over, turn-on, turn-width, width-tabled}
+use Rattle.grid.specs.Code.{areaIn}
+use Rattle.cover.proofs.Variants.{once-told, not-once-told, found-told, nothing-told}
+use Rattle.cover.proofs.FlashBounds.{mark-low}
+use Rattle.cover.proofs.MarkTurns.{never-nothing, turn-over, turn-on, turn-width, width-tabled}
 use Rattle.cover.proofs.marks.note_mark.Statement.{statement}
 use Rattle.cover.proofs.marks.note_mark.Tie as tie
 
 -- the job's last line, and the set's table over the lines up to it
-wide : (c : tie.After-last-line) → c .last-line .result .0 ≡ c .before .before .before .args .job .width
+wide : (c : tie.After-last-line) → c .last-line .result .0 ≡ c .before .before .before .args .size .width
 wide c = ap number (c .last-line .ensures)
 
 held : (c : tie.After-last-line) → Tabled (c .last-line .result .0) (c .before .before .before .args .set .now)
@@ -43,7 +43,7 @@ returns c =
     let l = k .before .before .before in
     let g = l .before .before .before .args in
     turn-width (wide l)
-    (turn-over (held l) (areaIn (g .job) (g .raster .now)) (g .job .height) (g .rows .now)
+    (turn-over (held l) (areaIn (g .size) (g .raster .now)) (g .size .height) (g .rows .now)
     (not-once-told (heldOnce _ _) (k .next-column .ensures .0) (c .enum-told .given .1))
     (k .next-column .ensures .1))
 
@@ -64,7 +64,7 @@ low c =
       arith,
       z .low,
       ap (λ (y : Row). y .0) (c .mark-row .ensures),
-      mark-low (areaIn (s .args .job) (s .args .raster .now)) (s .args .job .height) (spanOf (c .before .before .i .given .0 .0)) (z .tall),
+      mark-low (areaIn (s .args .size) (s .args .raster .now)) (s .args .size .height) (spanOf (c .before .before .i .given .0 .0)) (z .tall),
     )
 
 slice-write-rows : tie.Need-slice-write-rows
@@ -83,7 +83,7 @@ returns-3 c =
     let l = o .before .before .before .before .before in
     let g = l .before .before .before .args in
     turn-width (wide l)
-    (turn-on (held l) (areaIn (g .job) (g .raster .now)) (g .job .height) (g .rows .now) (once o) (found i) (c .strike .ensures)
+    (turn-on (held l) (areaIn (g .size) (g .raster .now)) (g .size .height) (g .rows .now) (once o) (found i) (c .strike .ensures)
     (ap (λ (y : Row). set (g .rows .now) (o .column .given .0 .0 .0) (y .0 + 1)) (m .mark-row .ensures)))
 
 pub note-mark-spec : {M : Type 1} → statement M

@@ -5,19 +5,20 @@ use native.Mathlib.Omega.{arith}
 use lib.ListN.{length}
 use Rattle.method.specs.Strike.{marked}
 use Rattle.intervals.specs.Table.{setOf, Tabled}
-use Rattle.cover.specs.Code.{areaIn, noted}
-use Rattle.cover.proofs.Turns.{noted-over}
+use Rattle.grid.specs.Code.{areaIn}
+use Rattle.cover.specs.Code.{noted}
+use Rattle.cover.proofs.MarkTurns.{noted-over}
 use Rattle.cover.proofs.marks.note_marks.Statement.{statement}
 use Rattle.cover.proofs.marks.note_marks.Tie as tie
 
 abbrev Inv-loop : tie.InvT-loop
-Inv-loop job raster set₀ work₀ rows₀ set work rows =
-    Tabled (job .width) set × (length rows ≡ length rows₀)
-    × (noted (areaIn job raster) (job .height) (marked (job .width) (setOf (job .width) set₀)) rows₀
-    ≡ noted (areaIn job raster) (job .height) (marked (job .width) (setOf (job .width) set)) rows)
+Inv-loop size raster set₀ work₀ rows₀ set work rows =
+    Tabled (size .width) set × (length rows ≡ length rows₀)
+    × (noted (areaIn size raster) (size .height) (marked (size .width) (setOf (size .width) set₀)) rows₀
+    ≡ noted (areaIn size raster) (size .height) (marked (size .width) (setOf (size .width) set)) rows)
 
 abbrev μ-loop : tie.MeasureT-loop
-μ-loop job raster set₀ work₀ rows₀ set work rows = length (setOf (job .width) set)
+μ-loop size raster set₀ work₀ rows₀ set work rows = length (setOf (size .width) set)
 
 loop-holds : tie.Need-loop-holds Inv-loop μ-loop
 loop-holds c = (c .before .before .pre .1 .0, refl, refl)

@@ -1,7 +1,7 @@
 -- `write_mark` meets its contract: one column's mark, where one is noted and there are to be more.
 use native.Mathlib.Omega.{arith}
 use borrow.Author.Needs.{needs}
-use Rattle.cover.proofs.Stored.{one-marked, none-marked, as-marked}
+use Rattle.cover.proofs.RecordsBehind.{one-marked, none-marked, as-marked}
 use Rattle.cover.proofs.NotedMarks.{no-more, not-noted, one-noted}
 use Rattle.cover.proofs.marks.write_mark.Statement.{statement}
 use Rattle.cover.proofs.marks.write_mark.Tie as tie
@@ -29,7 +29,7 @@ returns-3 c =
     let p = c .before .before in
     let e = p .before .before in
     let g = e .before .before .before .before .before .args in
-    as-marked (one-noted (g .rows .now) (g .column .0) (g .most) (g .n) (omega arith) (e .if2 .left)) (one-marked (p .put-mark .ensures))
+    as-marked (one-noted (g .rows .now) (g .column .0) (g .most) (g .n) (omega arith) (e .if2 .left)) (one-marked (omega arith) (omega arith) (p .put-mark .ensures))
 
 pub write-mark-spec : {M : Type 1} → statement M
 write-mark-spec =

@@ -8,7 +8,7 @@ use Rattle.method.specs.Intervals.{span}
 use Rattle.grid.specs.Lines.{spanOf}
 use Rattle.grid.proofs.Edges.{number}
 use Rattle.cover.specs.Slices.{copperAlong}
-use Rattle.cover.specs.Code.{areaIn}
+use Rattle.grid.specs.Code.{areaIn}
 use Rattle.cover.proofs.Along.{along-stop, along-on, along-end}
 use Rattle.cover.proofs.slices.copper_along.Statement.{statement}
 use Rattle.cover.proofs.slices.copper_along.Tie as tie
@@ -18,11 +18,11 @@ use Rattle.grid.proofs.lines.Line.column_after.Reads as column-after-reads
 use Rattle.grid.proofs.raster.is_copper.Reads as is-copper-reads
 
 abbrev Inv-loop : tie.InvT-loop
-Inv-loop job raster row c₀ c-end c =
-    copperAlong (areaIn job raster) (row .0) (span c₀ c-end) ≡ copperAlong (areaIn job raster) (row .0) (span c c-end)
+Inv-loop size raster row c₀ c-end c =
+    copperAlong (areaIn size raster) (row .0) (span c₀ c-end) ≡ copperAlong (areaIn size raster) (row .0) (span c c-end)
 
 abbrev μ-loop : tie.MeasureT-loop
-μ-loop job raster row c₀ c-end c = c-end - c
+μ-loop size raster row c₀ c-end c = c-end - c
 
 column-after-requires : tie.Need-column-after-requires Inv-loop μ-loop
 column-after-requires c κs = search needs
@@ -38,13 +38,13 @@ is-copper-requires c κs = search needs
 
 -- the row along the whole interval, and from column `c` on
 left : (l : tie.At-loop Inv-loop μ-loop) → let g = l .before .before .before .before .args in
-    copperAlong (areaIn (g .job) (g .raster .now)) (g .row .0) (spanOf (g .i))
-    ≡ copperAlong (areaIn (g .job) (g .raster .now)) (g .row .0) (span (l .loop .c) (l .before .column-after2 .result .0))
+    copperAlong (areaIn (g .size) (g .raster .now)) (g .row .0) (spanOf (g .i))
+    ≡ copperAlong (areaIn (g .size) (g .raster .now)) (g .row .0) (span (l .loop .c) (l .before .column-after2 .result .0))
 left l =
     let g = l .before .before .before .before .args in
     let from = ap number (l .before .before .column-after .ensures) in
     let to = ap number (l .before .column-after2 .ensures) in
-    sym (λ k. copperAlong (areaIn (g .job) (g .raster .now)) (g .row .0) (span (from k) (to k))) ∙ l .loop .inv
+    sym (λ k. copperAlong (areaIn (g .size) (g .raster .now)) (g .row .0) (span (from k) (to k))) ∙ l .loop .inv
 
 returns : tie.Need-returns Inv-loop μ-loop
 returns c =

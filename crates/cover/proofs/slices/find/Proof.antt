@@ -7,24 +7,25 @@ use native.Mathlib.Omega.{arith}
 use borrow.Author.Needs.{needs}
 use Rattle.grid.specs.Lines.{spanOf}
 use Rattle.grid.specs.declared.lines.Interval.{Interval}
-use Rattle.grid.specs.declared.raster.Job.{Job}
-use Rattle.cover.specs.Slices.{slice, markRow}
-use Rattle.cover.specs.Code.{areaIn, seenOf}
-use Rattle.cover.proofs.Searched.{downFrom, down-all, down-found, down-next, down-none}
+use Rattle.grid.specs.declared.raster.Size.{Size}
+use Rattle.cover.specs.Slices.{slice, highestShown}
+use Rattle.grid.specs.Code.{areaIn}
+use Rattle.cover.specs.Code.{seenOf}
+use Rattle.lists.proofs.Passes.{downFrom, down-all, down-found, down-next, down-none}
 use Rattle.cover.proofs.slices.find.Statement.{statement}
 use Rattle.cover.proofs.slices.find.Tie as tie
 
-abbrev shown : Job → List ℕ → Interval → ℕ → Bool
-shown job raster i y = slice (areaIn job raster) y (spanOf i)
+abbrev shows : Size → List ℕ → Interval → ℕ → Bool
+shows size raster i y = slice (areaIn size raster) y (spanOf i)
 
 abbrev Inv-loop : tie.InvT-loop
-Inv-loop job raster i left₀ left = markRow (areaIn job raster) (job .height) (spanOf i) ≡ downFrom (shown job raster i) left
+Inv-loop size raster i left₀ left = highestShown (areaIn size raster) (size .height) (spanOf i) ≡ downFrom (shows size raster i) left
 
 abbrev μ-loop : tie.MeasureT-loop
-μ-loop job raster i left₀ left = left
+μ-loop size raster i left₀ left = left
 
 loop-holds : tie.Need-loop-holds Inv-loop μ-loop
-unfolding markRow
+unfolding highestShown
 loop-holds c = down-all _ _
 
 returns : tie.Need-returns Inv-loop μ-loop

@@ -2,24 +2,25 @@
 use mathlib.Core.Path.{refl, sym, ap, _∙_}
 use borrow.Author.Needs.{needs}
 use borrow.Author.Tests.{not-true}
-use Rattle.grid.specs.Lines.{spanOf}
+use Rattle.grid.specs.Lines.{spanOf, containsOf}
 use Rattle.grid.proofs.Edges.{number}
-use Rattle.cover.specs.Slices.{markRow}
-use Rattle.cover.proofs.Told.{in-some, never-none}
-use Rattle.cover.proofs.Started.{started-tabled, put-started, skip-started, outside-started}
+use Rattle.cover.specs.Slices.{highestShown}
+use Rattle.cover.proofs.Variants.{in-some, never-none}
+use Rattle.cover.proofs.StartingByCell.{started-tabled, put-started, skip-started, outside-started}
 use Rattle.cover.proofs.slices.put_seen.Statement.{statement}
 use Rattle.cover.proofs.slices.put_seen.Tie as tie
 
 returns : tie.Need-returns
 returns c =
-    let l = c .before .before in
+    let u = c .before .before in
+    let l = u .before in
     let s = l .before .before .before in
     outside-started _ _ _ (s .pre .0 .narrow) (s .args .k) (ap number (l .last-line .ensures)) (s .pre .1) (ap spanOf (l .before .interval-at .ensures))
-    (sym (c .before .contains .ensures) ∙ not-true _ (c .if1 .taken))
+    (sym (c .before .contains .ensures ∙ ap (λ all. containsOf all (l .before .interval-at .result)) (u .up-to .ensures)) ∙ not-true _ (c .if1 .taken))
 
 put-requires : tie.Need-put-requires
 put-requires c κs =
-    let l = c .before .before .before .before .before .before in
+    let l = c .before .before .before .before .before .before .before in
     let s = l .before .before .before in
     started-tabled _ _ _ (s .pre .0 .narrow) (s .args .k) (ap number (l .last-line .ensures)) (s .pre .1)
 
@@ -27,23 +28,24 @@ returns-2 : tie.Need-returns-2
 returns-2 c =
     let m = c .before .before in
     let f = m .before .before in
-    let l = f .before .before .before in
+    let l = f .before .before .before .before in
     let s = l .before .before .before in
     c .put .ensures
     ∙ put-started _ _ _ (s .pre .0 .narrow) (s .args .k) (ap number (l .last-line .ensures)) (s .pre .1) (ap spanOf (l .before .interval-at .ensures))
-    (in-some (markRow _ _ _) (f .find .ensures) (m .enum-told .given .1) .1)
+    (in-some (highestShown _ _ _) (f .find .ensures) (m .enum-told .given .1) .1)
 
 returns-3 : tie.Need-returns-3
 returns-3 c =
     let f = c .before .before in
-    let l = f .before .before .before in
+    let l = f .before .before .before .before in
     let s = l .before .before .before in
-    skip-started _ _ _ (s .pre .0 .narrow) (s .args .k) refl (s .pre .1) (ap spanOf (l .before .interval-at .ensures)) (never-none (markRow _ _ _) (f .find .ensures) (c .enum-told2 .given .1))
+    skip-started _ _ _ (s .pre .0 .narrow) (s .args .k) refl (s .pre .1) (ap spanOf (l .before .interval-at .ensures)) (never-none (highestShown _ _ _) (f .find .ensures) (c .enum-told2 .given .1))
 
 pub put-seen-spec : {M : Type 1} → statement M
 put-seen-spec =
     tie.close
     (tie.spec
+    (λ c κs. search needs)
     (λ c κs. search needs)
     (λ c κs. search needs)
     (λ c κs. search needs)

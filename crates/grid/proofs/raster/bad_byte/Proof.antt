@@ -8,7 +8,8 @@ use borrow.Author.Needs.{needs}
 use lib.Dec.{ltb}
 use lib.ListN.{length, getD}
 use Rattle.lists.proofs.Searches.{first-within}
-use Rattle.grid.specs.Raster.{firstBad, placeIn}
+use Rattle.grid.specs.Raster.{firstBad, inRaster}
+use Rattle.grid.specs.Code.{placeOf}
 use Rattle.grid.proofs.Next.{end-some, end-none}
 use Rattle.grid.proofs.raster.bad_byte.Statement.{statement}
 use Rattle.grid.proofs.raster.bad_byte.Tie as tie
@@ -27,10 +28,10 @@ unfolding firstBad
 bad-below s x e = omega (arith, first-within (λ i. ltb 1 (getD s i 0)) 0 (length s) e)
 
 returns : tie.Need-returns
-returns c = sym (ap (placeIn _) (end-some _ _ (firstBad _) (c .before .first-bad .ensures) (c .if1 .taken)))
+returns c = sym (ap (λ o. placeOf (inRaster (c .before .before .before .args .size .width) o)) (end-some _ _ (firstBad _) (c .before .first-bad .ensures) (c .if1 .taken)))
 
 returns-2 : tie.Need-returns-2
-returns-2 c = sym (ap (placeIn _) (end-none _ _ (firstBad _) (bad-below _) (c .before .first-bad .ensures) (c .if1 .left)))
+returns-2 c = sym (ap (λ o. placeOf (inRaster (c .before .before .before .args .size .width) o)) (end-none _ _ (firstBad _) (bad-below _) (c .before .first-bad .ensures) (c .if1 .left)))
 
 pub bad-byte-spec : {M : Type 1} → statement M
 bad-byte-spec = tie.close (tie.spec first-bad-requires rem-t8 div-t10 returns returns-2)

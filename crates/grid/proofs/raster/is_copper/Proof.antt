@@ -9,10 +9,10 @@ use Rattle.grid.proofs.raster.is_copper.Statement.{statement}
 use Rattle.grid.proofs.raster.is_copper.Tie as tie
 
 -- the index of a square inside the grid lies in the raster
-inside : (c : tie.Then2) → let a = c .before .before .args in a .row .0 * a .job .width + a .column .0 < length (a .raster .now)
+inside : (c : tie.Then2) → let a = c .before .before .args in a .row .0 * a .size .width + a .column .0 < length (a .raster .now)
 inside c =
     let a = c .before .before .args in
-    omega (arith, index-below (a .job .width) (a .job .height) (a .column .0) (a .row .0) (c .before .if1 .taken) (ltb-true _ _ (c .if2 .taken)))
+    omega (arith, index-below (a .size .width) (a .size .height) (a .column .0) (a .row .0) (c .before .if1 .taken) (ltb-true _ _ (c .if2 .taken)))
 
 mul-i : tie.Need-mul-i
 mul-i c = omega (arith, inside c)

@@ -20,7 +20,7 @@ returns : tie.Need-returns Inv-loop μ-loop
 returns c =
     let l = c .before .before .before .before .loop in
     let a = c .before .before .before .before .before .before .args in
-    sym (l .inv .1 ∙ rows-bad (now (a .text)) (a .job .width) (l .passed + 2) (l .at) (l .rows) (omega arith) (sym (c .before .before .read-row .ensures) ∙ c .enum-told .given .1))
+    sym (l .inv .1 ∙ rows-bad (now (a .text)) (a .size .width) (l .passed + 2) (l .at) (l .rows) (omega arith) (sym (c .before .before .read-row .ensures) ∙ c .enum-told .given .1))
 
 loop-again : tie.Need-loop-again Inv-loop μ-loop
 loop-again c =
@@ -30,21 +30,21 @@ loop-again c =
     let n : l .passed + 2 + 1 ≡ l .passed + 1 + 2 = omega arith in (
       omega arith,
       l .inv .1
-          ∙ rows-turn (now (a .text)) (a .job .width) (l .passed + 2) (l .at) (l .rows) (omega arith) (sym (c .before .before .before .read-row .ensures) ∙ c .before .next .given .1)
-          ∙ ap (λ (x : ℕ). rowsFrom (now (a .text)) (a .job .width) (l .rows - 1) x next) n,
+          ∙ rows-turn (now (a .text)) (a .size .width) (l .passed + 2) (l .at) (l .rows) (omega arith) (sym (c .before .before .before .read-row .ensures) ∙ c .before .next .given .1)
+          ∙ ap (λ (x : ℕ). rowsFrom (now (a .text)) (a .size .width) (l .rows - 1) x next) n,
     )
 
 returns-2 : tie.Need-returns-2 Inv-loop μ-loop
 returns-2 c =
     let l = c .before .before .loop in
     let a = c .before .before .before .before .args in
-    sym (l .inv .1 ∙ rows-ended (now (a .text)) (a .job .width) (l .passed + 2) (l .at) (l .rows) (omega arith) (c .if1 .taken))
+    sym (l .inv .1 ∙ rows-ended (now (a .text)) (a .size .width) (l .passed + 2) (l .at) (l .rows) (omega arith) (c .if1 .taken))
 
 returns-3 : tie.Need-returns-3 Inv-loop μ-loop
 returns-3 c =
     let l = c .before .before .loop in
     let a = c .before .before .before .before .args in
-    sym (l .inv .1 ∙ rows-past (now (a .text)) (a .job .width) (l .passed + 2) (l .at) (l .rows) (omega arith) (c .if1 .left))
+    sym (l .inv .1 ∙ rows-past (now (a .text)) (a .size .width) (l .passed + 2) (l .at) (l .rows) (omega arith) (c .if1 .left))
 
 pub judge-rows-spec : {M : Type 1} → statement M
 judge-rows-spec =

@@ -12,7 +12,7 @@ use Rattle.text.specs.Words.{tab, wordAt, bodyAt}
 use Rattle.text.specs.Decimal.{fieldAt}
 use Rattle.job.specs.JobText.{rowWord}
 use Rattle.job.specs.Reading.{rowAt}
-use Rattle.job.proofs.Steps.{goes, stops, counts, uncounted}
+use Rattle.text.proofs.Steps.{goes, stops, counts, uncounted}
 use Rattle.job.proofs.Row.{numberStep, matchStep, tabStep, bodyStep, feedStep, row-steps}
 use Rattle.job.proofs.lines.read_row.Statement.{statement}
 use Rattle.job.proofs.lines.read_row.Tie as tie

@@ -1,12 +1,13 @@
--- A row below the side has at most two digits, so that the sum fits.
+-- A row below the side has few digits, so that the sum fits.
 use borrow.Author.Needs.{needs}
 use native.Mathlib.Omega.{arith}
-use Rattle.job.proofs.Lengths.{count-places, places-most, length-head}
+use Rattle.text.proofs.Lengths.{digits-few}
+use Rattle.job.proofs.Lengths.{length-head}
 use Rattle.job.proofs.lines.row_head.Statement.{statement}
 use Rattle.job.proofs.lines.row_head.Tie as tie
 
 add-result-2 : tie.Need-add-result-2
-add-result-2 c = let r = c .before .before .args .row .0 in omega (arith, c .digit-count .ensures, count-places r (omega arith), places-most r)
+add-result-2 c = omega (arith, c .digit-count .ensures, digits-few (c .before .before .args .row .0))
 
 returns : tie.Need-returns
 returns c = omega (arith, c .digit-count .ensures, length-head (c .before .before .args .row .0))

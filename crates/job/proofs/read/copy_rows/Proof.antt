@@ -5,7 +5,7 @@ use Prim.Native.Nat.{ℕ, _+_, _-_, _*_, _≤_}
 use native.Mathlib.Omega.{arith}
 use lib.ListN.{length, length-take}
 use denote.Ref.{now}
-use Rattle.text.specs.Words.{written}
+use Rattle.grid.specs.Rooms.{written}
 use Rattle.job.specs.JobText.{rowHead}
 use Rattle.job.specs.Reading.{rowsFrom, rasterFrom}
 use Rattle.job.specs.declared.lines.Lines.the-variants.{Ruled}
@@ -33,15 +33,15 @@ row-head-requires c κs = omega arith
 -- the row's line, by the length of its head, lies in the text, and its squares' place in the room
 inside : (c : tie.After-row-head Inv-loop μ-loop) → let l = c .before .before .loop in let a = c .before .before .before .before .before .args in
     (c .row-head .result ≡ length (rowHead (l .left - 1)))
-    × (l .at + c .row-head .result + a .job .width + 1 ≤ length (now (a .text)))
-    × ((l .left - 1) * a .job .width + a .job .width ≤ length (l .room))
+    × (l .at + c .row-head .result + a .size .width + 1 ≤ length (now (a .text)))
+    × ((l .left - 1) * a .size .width + a .size .width ≤ length (l .room))
 inside c =
     let l = c .before .before .loop in
     let a = c .before .before .before .before .before .args in
     let n : c .row-head .result ≡ length (rowHead (l .left - 1)) = c .row-head .ensures in (
       n,
-      omega (arith, inside-turn (now (a .text)) (l .room) (a .job .width) (l .left) (l .at) (omega arith) (l .inv .3)),
-      omega (arith, row-fits (a .job .width) (l .left) (omega arith)),
+      omega (arith, inside-turn (now (a .text)) (l .room) (a .size .width) (l .left) (l .at) (omega arith) (l .inv .3)),
+      omega (arith, row-fits (a .size .width) (l .left) (omega arith)),
     )
 
 add-body : tie.Need-add-body Inv-loop μ-loop
@@ -71,7 +71,7 @@ loop-again c =
     let l = b .before .before .loop in
     let a = b .before .before .before .before .before .args in
     let t = now (a .text) in
-    let w = a .job .width in
+    let w = a .size .width in
     let i = inside b in
     let next : pastRow (l .at) w (l .left - 1) ≡ l .at + b .row-head .result + w + 1 = omega (arith, i .0) in (
       omega arith,
@@ -90,7 +90,7 @@ returns : tie.Need-returns Inv-loop μ-loop
 returns c =
     let l = c .before .loop in
     let a = c .before .before .before .before .args in
-    sym (l .inv .4 ∙ copy-done (now (a .text)) (l .room) (a .job .width) (l .left) (l .at) (omega arith))
+    sym (l .inv .4 ∙ copy-done (now (a .text)) (l .room) (a .size .width) (l .left) (l .at) (omega arith))
 
 pub copy-rows-spec : {M : Type 1} → statement M
 copy-rows-spec =

@@ -1,14 +1,18 @@
--- Each check's answer is the one that the definition has at that place.
+-- Line 1, then the checks of its numbers, asked in turn, then the lines of the rows: each is the next part of the chain.
 use borrow.Author.Needs.{needs}
-use borrow.Author.Tests.{not-true, not-false}
-use mathlib.Core.Path.{_≡_, sym, ap, _∙_}
-use mathlib.Core.Bool.{true}
+use mathlib.Core.Path.{_≡_, refl, sym, ap, _∙_}
+use mathlib.Core.Bool.{Bool}
+use mathlib.Core.List.{[], _∷_}
+use lib.Dec.{leb}
 use denote.Ref.{now}
+use Rattle.grid.specs.Limits.{allowanceLimit}
+use Rattle.grid.specs.Answers.{check, firstRefusal, sizeOut}
 use Rattle.grid.specs.Raster.{sizeFits}
+use Rattle.grid.proofs.Chain.{asked, in-turn, check-plain}
 use Rattle.job.specs.Reading.{shapeAt}
 use Rattle.job.specs.declared.lines.Shape.the-variants.{Line}
 use Rattle.job.specs.declared.read.Judged.the-variants.{Refused}
-use Rattle.job.proofs.Judging.{sides, no-shape, not-sized, not-allowed, bad-row, all-fine}
+use Rattle.job.proofs.Judging.{sizeChecks, no-shape, not-sized, sized, bad-row, all-fine}
 use Rattle.job.proofs.read.judge_lines.Statement.{statement}
 use Rattle.job.proofs.read.judge_lines.Tie as tie
 
@@ -17,40 +21,41 @@ line1 : (c : tie.After-known-told) → let a = c .before .before .before .before
     shapeAt (now (a .text)) 0 ≡ Line (g .0) (g .1 .0) (g .1 .1 .0) (g .1 .1 .1 .0)
 line1 c = sym (c .before .before .before .shape-of .ensures) ∙ c .before .width .given .1
 
+sizes : (c : tie.After-unless2) → c .unless2 .result ≡ firstRefusal (sizeChecks _ (line1 (c .before .before .before .before)))
+sizes c =
+    let k = c .before .before .before .before in
+    let g = k .before .width .given .0 in
+    let f = c .before .before in
+    asked (_ ∷ [])
+    (asked [] (f .before .done .ensures) (c .before .unless .ensures) (ap (λ (b : Bool). check b sizeOut) (f .size-fits .ensures)))
+    (c .unless2 .ensures) refl
+    ∙ in-turn (sizeChecks _ (line1 k)) (check-plain (sizeFits (g .0) (g .1 .0)) 0, (check-plain (leb (g .1 .1 .0) allowanceLimit) 5, tt))
+
 returns : tie.Need-returns
 returns c =
     ap Refused (c .at .ensures)
     ∙ sym (no-shape _ (sym (c .before .before .before .shape-of .ensures) ∙ c .before .enum-told .given .1))
 
 returns-2 : tie.Need-returns-2
-returns-2 c =
-    let s = c .before .before in
-    ap Refused (c .refused .ensures)
-    ∙ sym (not-sized _ (line1 (s .before)) (sym (s .size-fits .ensures) ∙ not-true _ (c .before .if1 .taken)))
+returns-2 c = let u = c .before .before in sym (not-sized _ (line1 (u .before .before .before .before)) (sizes u) (c .if1 .taken))
 
-fits : (c : tie.Else1) → let g = c .before .before .before .width .given .0 in sizeFits (g .0) (g .1 .0) ≡ true
-fits c = sym (c .before .size-fits .ensures) ∙ not-false _ (c .if1 .left)
+rows-of-requires : tie.Need-rows-of-requires
+rows-of-requires c κs = let u = c .before .before in sized _ (line1 (u .before .before .before .before)) (sizes u) (c .if1 .left) .0 .low
 
 returns-3 : tie.Need-returns-3
 returns-3 c =
-    let e = c .before .before in
-    ap Refused (c .refused2 .ensures) ∙ sym (not-allowed _ (line1 (e .before .before)) (fits e) (c .before .if2 .taken))
-
-rows-of-requires : tie.Need-rows-of-requires
-rows-of-requires c κs = let g = c .before .before .before .before .width .given .0 in sides (g .0) (g .1 .0) (fits (c .before)) .low
+    let r = c .before .before .before .before in
+    let e = r .before in
+    let u = e .before .before in
+    ap Refused (c .at2 .ensures)
+    ∙ sym (bad-row _ (line1 (u .before .before .before .before)) (sizes u) (e .if1 .left) (sym (r .rows-of .ensures) ∙ c .before .before .line .given .1))
 
 returns-4 : tie.Need-returns-4
 returns-4 c =
-    let e = c .before .before .before .before .before in
-    ap Refused (c .at2 .ensures)
-    ∙ sym
-    (bad-row _ (line1 (e .before .before .before)) (fits (e .before)) (e .if2 .left)
-    (sym (c .before .before .before .before .rows-of .ensures) ∙ c .before .before .line .given .1))
-
-returns-5 : tie.Need-returns-5
-returns-5 c =
-    let e = c .before .before .before in
-    sym (all-fine _ (line1 (e .before .before .before)) (fits (e .before)) (e .if2 .left) (sym (c .before .before .rows-of .ensures) ∙ c .enum-told2 .given .1))
+    let r = c .before .before in
+    let e = r .before in
+    let u = e .before .before in
+    sym (all-fine _ (line1 (u .before .before .before .before)) (sizes u) (e .if1 .left) (sym (r .rows-of .ensures) ∙ c .enum-told2 .given .1))
 
 pub judge-lines-spec : {M : Type 1} → statement M
 judge-lines-spec =
@@ -63,12 +68,12 @@ judge-lines-spec =
     returns
     (λ c κs. search needs)
     (λ c κs. search needs)
-    returns-2
     (λ c κs. search needs)
-    returns-3
+    (λ c κs. search needs)
+    returns-2
     rows-of-requires
     (λ c. search needs)
     (λ c κs. search needs)
     (λ c. search needs)
-    returns-4
-    returns-5)
+    returns-3
+    returns-4)

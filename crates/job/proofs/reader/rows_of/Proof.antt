@@ -35,9 +35,9 @@ use denote.Triple.Spec.{tripleOf}
 use denote.Triple.Table.{cited}
 use denote.Triple.Walked.{says}
 use Rattle.grid.specs.Limits.{side}
-use Rattle.grid.specs.declared.raster.Job.{Job}
-use Rattle.grid.proofs.raster.Job as J
-use Rattle.grid.proofs.raster.Job.Laws as J′
+use Rattle.grid.specs.declared.raster.Size.{Size}
+use Rattle.grid.proofs.raster.Size as J
+use Rattle.grid.proofs.raster.Size.Laws as J′
 use Rattle.job.specs.Reader.{holding}
 use Rattle.job.specs.Reading.{rowsFrom}
 use Rattle.job.specs.declared.lines.Lines.{Lines}
@@ -75,7 +75,7 @@ module _ {M : Type 1} (𝓤 : URA M) (H : Heap 𝓤) (A : Atoms 𝓤) (mem : Mem
   Rows = tripleOf 𝓤 H A rows.signature (rows.spec 𝓤 H A mem run)
 
 module _ {M : Type 1} (𝓤 : URA M) (H : Heap 𝓤) (A : Atoms 𝓤) (W : Given 𝓤 H A) (mem : Memory → SProp 𝓤) (run : Routine → Fun 𝓤) (κs : Lfts 1) (qs : Shares 1)
-    (s : RefT (List ℕ)) (n : ℕ) (j : Job) (fits : n < 2 ^ 64) (low : j .height ≤ side) where
+    (s : RefT (List ℕ)) (n : ℕ) (j : Size) (fits : n < 2 ^ 64) (low : j .height ≤ side) where
   abbrev found : Reader → Lines
   found d = rowsFrom (now (d .text)) (j .width) (j .height) 2 (d .spot)
 

@@ -7,15 +7,15 @@ use lib.ListN.{length-append}
 use denote.Ref.{now}
 use Rattle.text.specs.Words.{tab, feed, glyph}
 use Rattle.text.specs.Decimal.{field}
-use Rattle.text.proofs.Writing.{then-written}
+use Rattle.grid.proofs.Writing.{then-written}
 use Rattle.text.proofs.Turns.{length-map}
 use Rattle.job.specs.JobText.{rowWord, rowHead, rowLine}
 use Rattle.job.proofs.Lengths.{length-head, length-row}
 use Rattle.job.proofs.write.put_row.Statement.{statement}
 use Rattle.job.proofs.write.put_row.Tie as tie
 
-put-word-requires : tie.Need-put-word-requires
-put-word-requires c κs =
+put-bytes-requires : tie.Need-put-bytes-requires
+put-bytes-requires c κs =
     let a = c .before .before .before .before .args in
     omega (arith, length-row (a .row .0) (now (a .squares)), length-head (a .row .0))
 
@@ -58,15 +58,15 @@ returns c =
     let m = length-map glyph squares in
     let x = length-append (field (a .row .0)) part in
     let y = length-append (map glyph squares) end in
-    let p1 = b1 .put-word .ensures .past in
+    let p1 = b1 .put-bytes .ensures .past in
     let p2 = b2 .put-field .ensures .past in
     let p3 = b3 .put-byte .ensures .past in
-    let k1 = b1 .put-word .kept .0 in
+    let k1 = b1 .put-bytes .kept .0 in
     let k2 = b2 .put-field .kept .0 in
     let k3 = b3 .put-byte .kept .0 in
     then-written (now (a .room)) (a .spot) (rowWord ++ (field (a .row .0) ++ part)) (map glyph squares ++ end) (omega arith)
-    (then-written (now (a .room)) (a .spot) rowWord (field (a .row .0) ++ part) (omega arith) (b1 .put-word .ensures)
-    (then-written (b1 .put-word .last .0) (b1 .put-word .result) (field (a .row .0)) part (omega arith) (b2 .put-field .ensures) (b3 .put-byte .ensures)))
+    (then-written (now (a .room)) (a .spot) rowWord (field (a .row .0) ++ part) (omega arith) (b1 .put-bytes .ensures)
+    (then-written (b1 .put-bytes .last .0) (b1 .put-bytes .result) (field (a .row .0)) part (omega arith) (b2 .put-field .ensures) (b3 .put-byte .ensures)))
     (then-written (b3 .put-byte .last .0) (b3 .put-byte .result) (map glyph squares) end (omega arith) (b4 .put-body .ensures) (b5 .put-byte2 .ensures))
 
 pub put-row-spec : {M : Type 1} → statement M
@@ -74,7 +74,7 @@ put-row-spec =
     tie.close
     (tie.spec
     (λ c. search needs)
-    put-word-requires
+    put-bytes-requires
     put-field-requires
     put-byte-requires
     put-body-requires

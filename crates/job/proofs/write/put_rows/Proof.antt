@@ -5,8 +5,8 @@ use Prim.Native.Nat.{ℕ, _+_, _-_, _*_, _≤_}
 use native.Mathlib.Omega.{arith}
 use lib.ListN.{length}
 use denote.Ref.{now}
-use Rattle.text.specs.Words.{written, Written}
-use Rattle.text.proofs.Writing.{written-none}
+use Rattle.grid.specs.Rooms.{written, Written}
+use Rattle.grid.proofs.Writing.{written-none}
 use Rattle.job.specs.JobText.{rowLine, rowOf, rowLines}
 use Rattle.job.proofs.Text.{lines-done, length-turn, row-inside, write-turn, part-row}
 use Rattle.job.proofs.write.put_rows.Statement.{statement}
@@ -24,11 +24,11 @@ abbrev μ-loop : tie.MeasureT-loop
 
 -- the row that comes next lies in the raster
 inside : (c : tie.In-loop Inv-loop μ-loop) → let l = c .before .loop in let a = c .before .before .before .before .args in
-    (l .left - 1) * a .job .width + a .job .width ≤ length (now (a .raster))
+    (l .left - 1) * a .size .width + a .size .width ≤ length (now (a .raster))
 inside c =
     let l = c .before .loop in
     let s = c .before .before .before .before in
-    row-inside (s .args .job .width) (now (s .args .raster)) (l .left) (omega arith) (l .inv .0) (s .pre .0 .full)
+    row-inside (s .args .size .width) (now (s .args .raster)) (l .left) (omega arith) (l .inv .0) (s .pre .0 .full)
 
 mul-from : tie.Need-mul-from Inv-loop μ-loop
 mul-from c = omega (arith, inside c)
@@ -43,7 +43,7 @@ put-row-requires : tie.Need-put-row-requires Inv-loop μ-loop
 put-row-requires c κs =
     let l = c .before .before .before .loop in
     let s = c .before .before .before .before .before .before in
-    let w = s .args .job .width in
+    let w = s .args .size .width in
     let raster = now (s .args .raster) in
     let r = l .left - 1 in
     let fits = s .pre .1 in
@@ -54,7 +54,7 @@ loop-again c =
     let b = c .before .before in
     let l = b .before .before .before .before .loop in
     let s = b .before .before .before .before .before .before .before in
-    let w = s .args .job .width in
+    let w = s .args .size .width in
     let raster = now (s .args .raster) in
     let r = l .left - 1 in
     let fits = s .pre .1 in
@@ -71,7 +71,7 @@ returns : tie.Need-returns Inv-loop μ-loop
 returns c =
     let l = c .before .loop in
     let a = c .before .before .before .before .args in
-    let none = lines-done (a .job .width) (now (a .raster)) (l .left) (omega arith) in
+    let none = lines-done (a .size .width) (now (a .raster)) (l .left) (omega arith) in
     record {
       past = omega (arith, ap length none);
       left = sym (l .inv .3 ∙ ap (written (l .room) (l .at)) none ∙ written-none (l .room) (l .at));

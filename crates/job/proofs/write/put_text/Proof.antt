@@ -3,7 +3,7 @@ use borrow.Author.Needs.{needs}
 use native.Mathlib.Omega.{arith}
 use lib.ListN.{length-append}
 use denote.Ref.{now}
-use Rattle.text.proofs.Writing.{then-written}
+use Rattle.grid.proofs.Writing.{then-written}
 use Rattle.job.specs.JobText.{shapeLine, rowLines, jobText}
 use Rattle.job.proofs.write.put_text.Statement.{statement}
 use Rattle.job.proofs.write.put_text.Tie as tie
@@ -14,7 +14,7 @@ put-shape-requires c κs =
     let a = c .before .before .before .args in
     let j = a .job in
     let fits = c .before .before .before .pre .1 in
-    omega (arith, length-append (shapeLine (j .width) (j .height) (j .allowance)) (rowLines (j .width) (now (a .raster)) (j .height)))
+    omega (arith, length-append (shapeLine (j .size .width) (j .size .height) (j .allowance)) (rowLines (j .size .width) (now (a .raster)) (j .size .height)))
 
 put-rows-requires : tie.Need-put-rows-requires
 unfolding jobText
@@ -23,7 +23,7 @@ put-rows-requires c κs =
     let a = s .args in
     let j = a .job in
     let fits = s .pre .1 in
-    (s .pre .0, omega (arith, length-append (shapeLine (j .width) (j .height) (j .allowance)) (rowLines (j .width) (now (a .raster)) (j .height))))
+    (s .pre .0, omega (arith, length-append (shapeLine (j .size .width) (j .size .height) (j .allowance)) (rowLines (j .size .width) (now (a .raster)) (j .size .height))))
 
 returns : tie.Need-returns
 unfolding jobText
@@ -33,8 +33,8 @@ returns c =
     let a = s .args in
     let j = a .job in
     let fits = s .pre .1 in
-    then-written (now (a .room)) 0 (shapeLine (j .width) (j .height) (j .allowance)) (rowLines (j .width) (now (a .raster)) (j .height))
-    (omega (arith, length-append (shapeLine (j .width) (j .height) (j .allowance)) (rowLines (j .width) (now (a .raster)) (j .height))))
+    then-written (now (a .room)) 0 (shapeLine (j .size .width) (j .size .height) (j .allowance)) (rowLines (j .size .width) (now (a .raster)) (j .size .height))
+    (omega (arith, length-append (shapeLine (j .size .width) (j .size .height) (j .allowance)) (rowLines (j .size .width) (now (a .raster)) (j .size .height))))
     (b .before .before .before .before .put-shape .ensures)
     (b .put-rows .ensures)
 

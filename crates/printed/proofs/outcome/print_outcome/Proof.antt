@@ -6,7 +6,8 @@ use borrow.Author.Needs.{needs}
 use denote.Ref.{now}
 use lib.ListN.{length}
 use Rattle.printed.specs.Printed.{printed, coverLine, refusedLine, flashLines, markLines, marksAfter}
-use Rattle.printed.proofs.Onward.{Remains, start, fits-next, piece, last, whole}
+use Rattle.text.proofs.Onward.{Remains, start, fits-next, piece, last, whole}
+use Rattle.text.proofs.Lengths.{bytes-within}
 use Rattle.printed.proofs.Forms.{print-cover, print-refused, marks-short, marks-none}
 use Rattle.printed.proofs.Longest.{print-most}
 use Rattle.printed.proofs.outcome.print_outcome.Statement.{statement}
@@ -25,7 +26,7 @@ begun c =
     (omega (
       arith,
       print-most (a .outcome) record { answer = omega arith; x = omega arith; y = omega arith; copper = omega arith } (now (a .flash-room)) (now (a .mark-room)) (b .pre .few-flashes) (b .pre .few-marks)
-          (λ i. c .before .before .before .shared-slice-known .given i .fits) (λ i. c .before .before .shared-slice-known2 .given i .fits),
+          (bytes-within (now (a .flash-room)) (λ i. c .before .before .before .shared-slice-known .given i .fits)) (bytes-within (now (a .mark-room)) (λ i. c .before .before .shared-slice-known2 .given i .fits)),
     ))
 
 -- the `cover` line is written

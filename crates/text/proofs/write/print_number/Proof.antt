@@ -5,7 +5,7 @@ use Prim.Native.Nat.{ℕ, _≤_, _-_, _+_}
 use native.Mathlib.Omega.{arith}
 use lib.ListN.{length, length-set}
 use denote.Ref.{now}
-use Rattle.text.specs.Words.{written}
+use Rattle.grid.specs.Rooms.{written}
 use Rattle.text.specs.Decimal.{decimal}
 use Rattle.text.proofs.Turns.{lastDigits, all-last-digits, print-turn, print-done}
 use Rattle.text.proofs.write.print_number.Statement.{statement}

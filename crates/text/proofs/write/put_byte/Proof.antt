@@ -2,7 +2,7 @@
 use borrow.Author.Needs.{needs}
 use mathlib.Core.Path.{refl}
 use denote.Ref.{now}
-use Rattle.text.proofs.Writing.{written-set}
+use Rattle.grid.proofs.Writing.{written-set}
 use Rattle.text.proofs.write.put_byte.Statement.{statement}
 use Rattle.text.proofs.write.put_byte.Tie as tie
 

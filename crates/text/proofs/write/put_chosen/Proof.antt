@@ -7,7 +7,8 @@ use native.Mathlib.Omega.{arith}
 use native.Mathlib.Nat.{add-zero}
 use lib.ListN.{length, drop, set, length-set}
 use denote.Ref.{now}
-use Rattle.text.specs.Words.{chosen, written}
+use Rattle.text.specs.Words.{chosen}
+use Rattle.grid.specs.Rooms.{written}
 use Rattle.text.proofs.Turns.{map-turn, map-done, length-map}
 use Rattle.text.proofs.write.put_chosen.Statement.{statement}
 use Rattle.text.proofs.write.put_chosen.Tie as tie

@@ -5,7 +5,7 @@ use native.Mathlib.Omega.{arith}
 use denote.Ref.{now}
 use Rattle.text.specs.Words.{tab}
 use Rattle.text.specs.Decimal.{decimal}
-use Rattle.text.proofs.Writing.{then-written}
+use Rattle.grid.proofs.Writing.{then-written}
 use Rattle.text.proofs.write.put_field.Statement.{statement}
 use Rattle.text.proofs.write.put_field.Tie as tie
 

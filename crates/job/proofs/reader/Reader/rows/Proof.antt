@@ -31,9 +31,9 @@ use denote.Triple.Spec.{tripleOf}
 use denote.Triple.Table.{cited}
 use denote.Triple.Walked.{says}
 use Rattle.grid.specs.Limits.{side}
-use Rattle.grid.specs.declared.raster.Job.{Job}
-use Rattle.grid.proofs.raster.Job as J
-use Rattle.grid.proofs.raster.Job.Laws as J′
+use Rattle.grid.specs.declared.raster.Size.{Size}
+use Rattle.grid.proofs.raster.Size as J
+use Rattle.grid.proofs.raster.Size.Laws as J′
 use Rattle.job.specs.Reading.{rowsFrom}
 use Rattle.job.specs.declared.lines.Lines.{Lines}
 use Rattle.job.specs.declared.reader.Reader.{Reader}
@@ -57,7 +57,7 @@ module _ {M : Type 1} (𝓤 : URA M) (H : Heap 𝓤) (A : Atoms 𝓤) (mem : Mem
   Callee = tripleOf 𝓤 H A callee.signature (callee.spec 𝓤 H A mem run)
 
 module _ {M : Type 1} (𝓤 : URA M) (H : Heap 𝓤) (A : Atoms 𝓤) (W : Given 𝓤 H A) (mem : Memory → SProp 𝓤) (run : Routine → Fun 𝓤) (κs : Lfts 1) (qs : Shares 1)
-    (d : Reader) (j : Job) (low : j .height ≤ side) where
+    (d : Reader) (j : Size) (low : j .height ≤ side) where
   abbrev mach : Val
   mach = T′.lowered d
 

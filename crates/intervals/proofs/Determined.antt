@@ -17,6 +17,7 @@ use Rattle.intervals.proofs.column.strike
 use Rattle.intervals.proofs.dependent.dependent
 use Rattle.intervals.proofs.bracket.bracket_from
 use Rattle.intervals.proofs.bracket.bracket
+use Rattle.intervals.proofs.reduce.furthest
 use Rattle.intervals.proofs.reduce.reduce
 use Rattle.intervals.proofs.final_set.final_set
 
@@ -64,6 +65,9 @@ bracket-from-determined κs a pre x y v w p q = (p ∙ sym q, refl)
 
 pub bracket-determined : Determined bracket.Kinds.ps bracket.Kinds.r bracket.Reads.Pre bracket.Reads.Post
 bracket-determined κs a pre x y v w p q = (p ∙ sym q, refl)
+
+pub furthest-determined : Determined furthest.Kinds.ps furthest.Kinds.r furthest.Reads.Pre furthest.Reads.Post
+furthest-determined κs a pre x y v w p q = (p ∙ sym q, refl)
 
 pub reduce-determined : Determined reduce.Kinds.ps reduce.Kinds.r reduce.Reads.Pre reduce.Reads.Post
 reduce-determined κs a pre x y v w p q = (refl, λ i. ((p ∙ sym q) i, v .1))

@@ -1,4 +1,4 @@
--- The counts of `dependent` and `held`: what a row adds to a column, right line by right line, and the rows of a bracket one after the other.
+-- The count of `held`: what a row adds to a column, right line by right line, and the rows of a bracket one after the other.
 -- A row's count of a column is a box of one row; the rows before line l hold what is counted so far; after row l column l is done.
 use mathlib.Core.Path.{_≡_, refl, _∙_}
 use mathlib.Core.Bool.{Bool, true, false, _&&_}
@@ -53,7 +53,7 @@ lines-row l b c i e r x y =
     (lines-hold c i x y)
 
 -- the box of one place
-one-place : (S : Set) (l c : ℕ) → K S l (suc l) c (suc c) ≡ bit (S l (suc c))
+pub one-place : (S : Set) (l c : ℕ) → K S l (suc l) c (suc c) ≡ bit (S l (suc c))
 unfolding K row
 one-place S l c = sum-one (λ k. row S k c (suc c)) l ∙ sum-one (λ r. bit (S l r)) (suc c)
 

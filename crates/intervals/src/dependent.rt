@@ -1,37 +1,36 @@
 // Rule 2: each column of the bracket lies in at least two of the intervals inside it.
 ghost use mathlib.Core.Path.{_≡_};
-ghost use Prim.Native.Nat.{ℕ, _≤_};
-ghost use lib.ListN.{length, getD};
 ghost use Rattle.method.specs.Dependent.{dependent};
-ghost use Rattle.grid.specs.Limits.{side};
 ghost use Rattle.grid.specs.Lines.{spanOf};
-ghost use Rattle.intervals.specs.Table.{cells, setOf, Tabled};
-ghost use Rattle.intervals.specs.Counts.{rowAdded};
+ghost use Rattle.intervals.specs.Table.{setOf, Tabled};
+ghost use Rattle.intervals.specs.Tops.{WithRow};
 use crate::Table;
-use crate::table::has;
-use grid::limits::SIDE;
+use crate::reduce::furthest;
 use grid::lines::Interval;
 use grid::lines::Line;
 
-// Adds the intervals from line `left` that end at line `right` or before to the counts of their columns.
-fn add_row(t: &Table, last: Line, left: Line, right: Line, counts: &mut [usize; SIDE])
+// The two greatest of several right lines, repeats counted; where there are fewer, the line from which they are looked for.
+pub struct Tops {
+    pub greater: Line,
+    pub lesser: Line,
+}
+
+// Takes in the intervals from line `left` that end at line `right` or before, looking down to the lesser line only.
+fn with_row(t: &Table, last: Line, left: Line, right: Line, tops: Tops) -> Tops
     requires { ⌜ Tabled (last .0) (now t) ⌝ }
-    requires { ⌜ (right .0 ≤ side) × (length (now counts) ≡ side) × ((c : ℕ) → getD (now counts) c 0 ≤ cells) ⌝ }
-    ensures { λ r. ⌜ now (counts .exit) ≡ rowAdded (setOf (last .0) (now (t .entry))) (left .0) (right .0) (now (counts .entry)) ⌝ }
+    ensures { λ r. ⌜ WithRow (setOf (last .0) (now (t .entry))) (left .0) (right .0) tops r ⌝ }
 {
-    let mut running: usize = 0;
-    let mut c = right.0;
-    while left.0 < c {
-        running += has(
-            t,
-            last,
-            Interval {
-                left,
-                right: Line(c),
-            },
-        ) as usize;
-        c -= 1;
-        counts[c] += running;
+    let greater = tops.greater;
+    let one = furthest(t, last, left, tops.lesser, right);
+    if one.0 <= greater.0 {
+        return Tops {
+            greater,
+            lesser: one,
+        };
+    }
+    Tops {
+        greater: one,
+        lesser: furthest(t, last, left, greater, Line(one.0 - 1)),
     }
 }
 
@@ -39,19 +38,22 @@ pub fn dependent(t: &Table, last: Line, d: Interval) -> bool
     requires { ⌜ Tabled (last .0) (now t) ⌝ }
     ensures { λ r. ⌜ r ≡ dependent (setOf (last .0) (now (t .entry))) (spanOf d) ⌝ }
 {
-    let left = d.left.0;
-    let right = d.right.0;
-    if right <= left {
+    let left = d.left;
+    let right = d.right;
+    if right.0 <= left.0 {
         return false;
     }
-    if last.0 < right {
+    if last.0 < right.0 {
         return false;
     }
-    let mut counts = [0usize; SIDE];
-    for l in left..right {
-        add_row(t, last, Line(l), d.right, &mut counts);
-        // No later row holds column l.
-        if counts[l] < 2 {
+    let mut tops = Tops {
+        greater: left,
+        lesser: left,
+    };
+    for l in left.0..right.0 {
+        tops = with_row(t, last, Line(l), right, tops);
+        // The column after line l: no later row holds it.
+        if tops.lesser.0 <= l {
             return false;
         }
     }

@@ -6,24 +6,24 @@ ghost use Rattle.intervals.specs.Table.{setOf, tableOf, Tabled};
 ghost use Rattle.intervals.specs.Reach.{reach};
 use crate::Table;
 use crate::table;
+use grid::limits::LINES;
 use grid::lines::Interval;
 use grid::lines::Line;
 
 // The greatest line up to `to` at which an interval from `left` ends, or `from` where none ends beyond it.
-fn furthest(t: &Table, last: Line, left: Line, from: Line, to: Line) -> Line
+pub fn furthest(t: &Table, last: Line, left: Line, from: Line, to: Line) -> Line
     requires { ⌜ Tabled (last .0) (now t) ⌝ }
     ensures { λ r. ⌜ r ≡ line (reach (setOf (last .0) (now (t .entry))) (left .0) (from .0) (to .0)) ⌝ }
 {
-    let mut r = to.0;
+    if last.0 <= left.0 {
+        return from;
+    }
+    // The row's bytes up to the last line.
+    let asked = Interval::up_to(last).meet(Interval { left, right: to });
+    let row = left.0 * LINES;
+    let mut r = asked.right.0;
     while from.0 < r {
-        if table::has(
-            t,
-            last,
-            Interval {
-                left,
-                right: Line(r),
-            },
-        ) {
+        if t[row + r] == 1 {
             return Line(r);
         }
         r -= 1;

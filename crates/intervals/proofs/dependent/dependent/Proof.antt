@@ -1,77 +1,74 @@
--- `dependent` meets its contract: after the rows before line l each column's count is that of the bracket's intervals in those rows,
--- and every column before l is held twice. Row l settles column l.
-use mathlib.Core.Path.{_≡_, refl, sym, ap, _∙_, subst⁻¹}
+-- `dependent` meets its contract: the two lines are the greatest of the bracket's rows before line l, and every column before l is held twice.
+-- With row l the lines beyond l are the intervals that hold column l: no later row holds it.
+use mathlib.Core.Path.{_≡_, sym, ap}
 use mathlib.Core.Bool.{true, false}
 use mathlib.Core.List.{List}
 use mathlib.Core.Logic.{by-cases}
-use Prim.Native.Nat.{ℕ, _+_, _-_, _≤_, _<_}
+use Prim.Native.Nat.{ℕ, suc, _+_, _-_, _≤_, _<_}
 use native.Mathlib.Omega.{arith}
-use native.Mathlib.Decide.{decLt, ℕ-discrete}
-use lib.ListN.{length, getD, replicate, length-replicate, getD-replicate, List·getD-eq-default}
-use Rattle.lists.proofs.Maps.{length-upTo, at-upTo}
+use native.Mathlib.Decide.{ℕ-discrete}
+use native.Mathlib.Numerals.{add-one}
 use Rattle.lists.proofs.Truth.{fails}
 use Rattle.method.specs.Intervals.{Interval as Span, span}
 use Rattle.method.specs.Dependent.{coveredInside, dependent}
+use Rattle.method.specs.Runs.{Listed}
+use Rattle.method.proofs.Sets.{has, K}
+use Rattle.method.proofs.Boxes.{K-rows, K-no-rows}
+use Rattle.method.proofs.Counts.{covered-box}
 use Rattle.method.proofs.Lines.{holds-lines, lines-hold}
 use Rattle.method.proofs.Minimal.{dependent-proper, dependent-twice, dependent-if, dependent-within}
-use Rattle.grid.specs.Limits.{side}
 use Rattle.grid.specs.Lines.{spanOf}
-use Rattle.intervals.specs.Table.{cells, setOf, Tabled}
-use Rattle.intervals.specs.Counts.{heldFrom, rowAdded}
+use Rattle.intervals.specs.declared.dependent.Tops.{Tops}
+use Rattle.intervals.specs.Table.{setOf}
+use Rattle.intervals.specs.Tops.{endsBeyond, Greatest, WithRow}
 use Rattle.intervals.proofs.TableLaws.{set-listed}
-use Rattle.intervals.proofs.RowCounts.{soFar, so-bound, so-none, so-next, so-done, set-bound}
+use Rattle.intervals.proofs.TopLines.{tops, ends-box, no-lines, greatest-same}
 use Rattle.intervals.proofs.dependent.dependent.Statement.{statement}
 use Rattle.intervals.proofs.dependent.dependent.Tie as tie
 
--- v counts the rows before line l of the bracket (a, b), and the columns before l are held twice
-abbrev Counted : List Span → ℕ → ℕ → ℕ → List ℕ → Type 0
-Counted s a b l v =
-    (length v ≡ side)
-    × ((x : ℕ) → x < side → getD v x 0 ≡ soFar s a b l x)
-    × ((x : ℕ) → a ≤ x → x < l → 2 ≤ coveredInside s (span a b) x)
+-- t has the two greatest lines of the rows a to l - 1 of the bracket (a, b), and the columns before l are held twice
+record Turn (s : List Span) (a b l : ℕ) (t : Tops) : Type 0 where
+  low : a ≤ l
+  greatest : Greatest a (λ x. K (has s) a l x b) t
+  twice : (x : ℕ) → a ≤ x → x < l → 2 ≤ coveredInside s (span a b) x
 
-abbrev Inv-loop : tie.InvT-loop
-Inv-loop t last d left right counts₀ l₀ counts l = (left ≤ l) × (l ≤ right) × Counted (setOf (last .0) t) left right l counts
+start : (s : List Span) (a b : ℕ) → Turn s a b a (tops a a)
+start s a b =
+    record {
+      low = omega arith;
+      greatest = no-lines a (λ x. K (has s) a a x b) (λ x. K-no-rows (has s) a a x b (omega arith));
+      twice = λ x u v. absurd (omega arith);
+    }
 
-abbrev μ-loop : tie.MeasureT-loop
-μ-loop t last d left right counts₀ l₀ counts l = right - l
+module _ (n : ℕ) {s : List Span} (listed : Listed n s) {a b l : ℕ} {t u : Tops} (T : Turn s a b l t) (row : WithRow s l b t u) where
+  -- with row l
+  taken : Greatest a (λ x. K (has s) a (suc l) x b) u
+  taken =
+      let low = T .low in
+      greatest-same a (λ x. K (has s) a l x b + endsBeyond s l b x) (λ x. K (has s) a (suc l) x b) u
+      (λ x. omega (arith, ends-box n listed l b x, K-rows (has s) a l (suc l) x b (omega arith) (omega arith)))
+      (row a (λ x. K (has s) a l x b) (T .greatest))
 
-start : (s : List Span) (a b m : ℕ) → m ≡ side → Counted s a b a (replicate m 0)
-start s a b m e = (
-  length-replicate m 0 ∙ e,
-  (λ x h. getD-replicate m x 0 0 (omega arith) ∙ sym (so-none s a b x)),
-  λ x h k. absurd (omega arith),
-)
+  once : u .lesser .0 ≤ l → coveredInside s (span a b) l < 2
+  once h = omega (arith, covered-box n s listed a b l, taken .single l h)
 
-bound : {n : ℕ} {t : List ℕ} → Tabled n t → (a b l : ℕ) (v : List ℕ) → Counted (setOf n t) a b l v → (x : ℕ) → getD v x 0 ≤ cells
-bound {n} {t} T a b l v so x =
-    let size = so .0 in
-    by-cases (decLt x side)
-    (λ h. omega (arith, so .1 x h, so-bound (setOf n t) a b l x, set-bound T))
-    (λ h. omega (arith, List·getD-eq-default v 0 {n = x} (omega arith)))
-
-module _ (s : List Span) (a b l : ℕ) (v : List ℕ) (so : Counted s a b l v) (low : a ≤ l) (high : l < side) where
-  -- with row l added
-  added : (x : ℕ) → x < side → getD (rowAdded s l b v) x 0 ≡ soFar s a b (l + 1) x
-  unfolding rowAdded
-  added x h =
-      let size = so .0 in
-      at-upTo (λ x. getD v x 0 + heldFrom s l b x) (length v) x (omega arith) ∙ omega (arith, so .1 x h, so-next s a b l x low)
-
-  settled : getD (rowAdded s l b v) l 0 ≡ coveredInside s (span a b) l
-  settled = added l high ∙ so-done s a b l
-
-  next : 2 ≤ getD (rowAdded s l b v) l 0 → Counted s a b (l + 1) (rowAdded s l b v)
-  unfolding rowAdded
+  next : l < u .lesser .0 → Turn s a b (l + 1) u
   next h =
-      let here = settled in (
-        length-upTo (λ x. getD v x 0 + heldFrom s l b x) (length v) ∙ so .0,
-        added,
-        λ x u w.
+      let here : 2 ≤ coveredInside s (span a b) l = omega (arith, covered-box n s listed a b l, taken .two l (T .low) h) in
+      record {
+        low = omega (arith, T .low);
+        greatest = rw add-one taken;
+        twice = λ x v w.
             by-cases (ℕ-discrete x l)
             (λ e. omega (arith, ap (coveredInside s (span a b)) e))
-            (λ e. so .2 x u (omega arith)),
-      )
+            (λ e. T .twice x v (omega arith));
+      }
+
+abbrev Inv-loop : tie.InvT-loop
+Inv-loop t last right tops₀ l₀ l-end tops l = (l ≤ l-end) × Turn (setOf (last .0) t) l₀ l-end l tops
+
+abbrev μ-loop : tie.MeasureT-loop
+μ-loop t last right tops₀ l₀ l-end tops l = l-end - l
 
 -- one column held less than twice, or all of them held twice
 not-twice : (s : List Span) (a b x : ℕ) → a ≤ x → x < b → coveredInside s (span a b) x < 2 → false ≡ dependent s (span a b)
@@ -83,13 +80,13 @@ all-twice s a b h each = sym (dependent-if s (span a b) h (λ x t. let w = holds
 
 returns : tie.Need-returns Inv-loop μ-loop
 returns c =
-    let a = c .before .args in
+    let a = c .before .before .before .before .before .args in
     let s = setOf (a .last .0) (a .t .now) in
     sym (fails (dependent s (spanOf (a .d))) (λ t. omega (arith, dependent-proper s (spanOf (a .d)) t)))
 
 returns-2 : tie.Need-returns-2 Inv-loop μ-loop
 returns-2 c =
-    let a = c .before .before .before .args in
+    let a = c .before .before .before .before .before .before .before .before .args in
     let s = setOf (a .last .0) (a .t .now) in
     sym
     (fails (dependent s (spanOf (a .d)))
@@ -97,55 +94,33 @@ returns-2 c =
 
 loop-holds : tie.Need-loop-holds Inv-loop μ-loop
 loop-holds c =
-    let a = c .before .before .before .args in
-    (omega arith, omega arith, start (setOf (a .last .0) (a .t .now)) (a .d .left .0) (a .d .right .0) side refl)
+    let a = c .before .before .before .before .before .before .before .before .args in
+    (omega arith, start (setOf (a .last .0) (a .t .now)) (a .d .left .0) (a .d .right .0))
 
-add-row-requires : tie.Need-add-row-requires Inv-loop μ-loop
-add-row-requires c κs =
-    let at = c .before .before in
-    let from = at .before .before .before .before in
-    let a = from .args in (
-      from .pre,
-      (omega arith, at .loop .inv .2 .0, bound (from .pre) (a .d .left .0) (a .d .right .0) (at .loop .l) (at .loop .counts) (at .loop .inv .2)),
-    )
-
-array-read-if3 : tie.Need-array-read-if3 Inv-loop μ-loop
-array-read-if3 c = omega arith
+with-row-requires : tie.Need-with-row-requires Inv-loop μ-loop
+with-row-requires c κs = c .before .before .before .before .before .before .before .before .before .before .pre
 
 returns-3 : tie.Need-returns-3 Inv-loop μ-loop
 returns-3 c =
     let at = c .before .before .before .before in
-    let a = at .before .before .before .before .args in
-    let s = setOf (a .last .0) (a .t .now) in
-    let l = at .loop .l in
-    let high : l < side = omega arith in
-    not-twice s (a .d .left .0) (a .d .right .0) l (at .loop .inv .0) (c .before .before .before .loop-test .taken)
-    (omega (
-      arith,
-      settled s (a .d .left .0) (a .d .right .0) l (at .loop .counts) (at .loop .inv .2) (at .loop .inv .0) high,
-      ap (λ v. getD v l 0) (c .before .add-row .ensures),
-    ))
+    let a = at .before .before .before .before .before .before .before .before .before .args in
+    let n = a .last .0 in
+    let T = at .loop .inv .1 in
+    not-twice (setOf n (a .t .now)) (a .d .left .0) (a .d .right .0) (at .loop .l) (T .low) (c .before .before .before .loop-test .taken)
+    (once n (set-listed n (a .t .now)) T (c .before .before .with-row .ensures) (omega arith))
 
 loop-again : tie.Need-loop-again Inv-loop μ-loop
 loop-again c =
     let at = c .before .before .before .before in
-    let a = at .before .before .before .before .args in
-    let s = setOf (a .last .0) (a .t .now) in
-    let l = at .loop .l in
-    let high : l < side = omega arith in
-    let e = c .before .add-row .ensures in (
-      omega arith,
-      omega arith,
-      subst⁻¹ (Counted s (a .d .left .0) (a .d .right .0) (l + 1)) e
-          (next s (a .d .left .0) (a .d .right .0) l (at .loop .counts) (at .loop .inv .2) (at .loop .inv .0) high
-          (omega (arith, ap (λ v. getD v l 0) e))),
-    )
+    let a = at .before .before .before .before .before .before .before .before .before .args in
+    let n = a .last .0 in
+    (omega arith, next n (set-listed n (a .t .now)) (at .loop .inv .1) (c .before .before .with-row .ensures) (omega arith))
 
 returns-4 : tie.Need-returns-4 Inv-loop μ-loop
 returns-4 c =
     let at = c .before in
-    let a = at .before .before .before .before .args in
-    all-twice (setOf (a .last .0) (a .t .now)) (a .d .left .0) (a .d .right .0) (omega arith) (λ x u w. at .loop .inv .2 .2 x u (omega arith))
+    let a = at .before .before .before .before .before .before .before .before .before .args in
+    all-twice (setOf (a .last .0) (a .t .now)) (a .d .left .0) (a .d .right .0) (omega arith) (λ x u w. at .loop .inv .1 .twice x u (omega arith))
 
 pub dependent-spec : {M : Type 1} → statement M
 dependent-spec =
@@ -156,9 +131,7 @@ dependent-spec =
     returns
     returns-2
     loop-holds
-    add-row-requires
-    (λ c. omega arith)
-    array-read-if3
+    with-row-requires
     returns-3
     (λ c. omega arith)
     (λ c. omega arith)

@@ -81,14 +81,16 @@ struct keekaboor_outcome {
     uint64_t place_x, place_y;
     uint64_t flashes; /* how many flash records were written */
     uint64_t marks;   /* how many mark records were written */
-    uint64_t copper;  /* the copper number, from which plating sets its current: the sum of the flashes' areas */
+    uint64_t copper;  /* the copper number, from which plating sets its current: the raster's copper squares, each once */
+    uint64_t flashed; /* the flashed area: the sum of the flashes' areas, a square once for each flash that holds it */
 };
 
 /*
  * Covers an area. On success flash_room begins with `flashes` records of four bytes: first column, last
  * column, bottom row, top row, all inclusive, in the order of first column, then last column; mark_room
  * begins with `marks` records of two bytes: column and row, in the order of columns; and `marks` equals
- * `flashes`. An area without copper has no flashes and no marks.
+ * `flashes`. `copper` is at most `flashed`, and equal to it exactly where no two flashes share a square. An area
+ * without copper has no flashes and no marks, and both are 0.
  *
  * Refusals, the first that applies: 1, 2, 3, 4, 6, 7, 8, 9. With 9, and an allowance of k, mark_room
  * begins with k + 1 marks, no two in one rectangle of copper, `marks` says so, and the other counts are 0.

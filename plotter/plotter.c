@@ -34,7 +34,8 @@ static void plot(const char *name, const uint8_t raster[WIDTH * HEIGHT], uint64_
     struct keekaboor_outcome o = keekaboor_cover(WIDTH, HEIGHT, allowance, raster, WIDTH * HEIGHT,
                                                  flashes, sizeof flashes, marks, sizeof marks);
     if (o.answer == KEEKABOOR_DONE)
-        printf("%s: %" PRIu64 " flashes, copper number %" PRIu64 "\n", name, o.flashes, o.copper);
+        printf("%s: %" PRIu64 " flashes, copper number %" PRIu64 ", flashed area %" PRIu64 "\n", name, o.flashes, o.copper,
+               o.flashed);
     else
         printf("%s: refused %" PRIu64 " at %" PRIu64 ", %" PRIu64 "\n", name, o.answer, o.place_x, o.place_y);
     for (uint64_t i = 0; i < o.flashes; i++) {

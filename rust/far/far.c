@@ -4,7 +4,7 @@
  *
  * A request is nine numbers (function, times, three arguments, the size of each of three buffers, and
  * how many guard bytes each has at either end), then the three buffers' bytes. The answer is the
- * outcome's six numbers, the nanoseconds of the processor that the calls took, and the three buffers as they are now.
+ * outcome's seven numbers, the nanoseconds of the processor that the calls took, and the three buffers as they are now.
  */
 #define _POSIX_C_SOURCE 200809L
 #include "../hand/hand.h"
@@ -15,6 +15,9 @@
 #include <unistd.h>
 
 enum { READ_JOB, WRITE_JOB, COVERS };
+
+/* How many fields the longest outcome has. */
+enum { NUMBERS = 7 };
 
 /* The covers, whose numbers follow. */
 static struct keekaboor_outcome (*const covers[])(uint64_t, uint64_t, uint64_t, const uint8_t *, size_t, uint8_t *, size_t,
@@ -54,19 +57,19 @@ static uint64_t now(void) {
     return (uint64_t)t.tv_sec * 1000000000u + (uint64_t)t.tv_nsec;
 }
 
-static void call(const struct request *r, uint8_t *const buffer[3], uint64_t outcome[6]) {
+static void call(const struct request *r, uint8_t *const buffer[3], uint64_t outcome[NUMBERS]) {
     const uint64_t *n = r->number, *size = r->size;
     switch (r->function) {
     case READ_JOB: {
         struct keekaboor_read_outcome o = keekaboor_read_job(buffer[0], size[0], buffer[1], size[1]);
-        uint64_t all[6] = {o.answer, o.place_x, o.place_y, o.width, o.height, o.allowance};
+        uint64_t all[NUMBERS] = {o.answer, o.place_x, o.place_y, o.width, o.height, o.allowance};
         memcpy(outcome, all, sizeof all);
         break;
     }
     case WRITE_JOB: {
         struct keekaboor_write_outcome o =
             keekaboor_write_job(n[0], n[1], n[2], buffer[0], size[0], buffer[1], size[1]);
-        uint64_t all[6] = {o.answer, o.place_x, o.place_y, o.length, 0, 0};
+        uint64_t all[NUMBERS] = {o.answer, o.place_x, o.place_y, o.length};
         memcpy(outcome, all, sizeof all);
         break;
     }
@@ -75,7 +78,7 @@ static void call(const struct request *r, uint8_t *const buffer[3], uint64_t out
             exit(2);
         struct keekaboor_outcome o = covers[r->function - COVERS](n[0], n[1], n[2], buffer[0], size[0], buffer[1],
                                                                   size[1], buffer[2], size[2]);
-        uint64_t all[6] = {o.answer, o.place_x, o.place_y, o.flashes, o.marks, o.copper};
+        uint64_t all[NUMBERS] = {o.answer, o.place_x, o.place_y, o.flashes, o.marks, o.copper, o.flashed};
         memcpy(outcome, all, sizeof all);
     }
     }
@@ -85,7 +88,7 @@ static void call(const struct request *r, uint8_t *const buffer[3], uint64_t out
 int main(void) {
     struct request r;
     while (get(&r, sizeof r)) {
-        uint64_t reply[7] = {0};
+        uint64_t reply[NUMBERS + 1] = {0};
         size_t total = sizeof reply;
         for (int i = 0; i < 3; i++)
             total += r.size[i] + 2 * r.guard;
@@ -100,7 +103,7 @@ int main(void) {
         uint64_t start = now();
         for (uint64_t i = 0; i < r.times; i++)
             call(&r, buffer, reply);
-        reply[6] = now() - start;
+        reply[NUMBERS] = now() - start;
         memcpy(message, reply, sizeof reply);
         if (!put(message, total))
             return 1;

@@ -156,7 +156,15 @@ static int full(const struct area *a, struct interval of, int row) {
     return 1;
 }
 
-/* Gives the sum of the flashes' areas. */
+static uint64_t copper_number(const struct area *a) {
+    uint64_t count = 0;
+    for (int row = 0; row < a->height; row++)
+        for (int column = 0; column < a->width; column++)
+            count += (uint64_t)copper(a, column, row);
+    return count;
+}
+
+/* Gives the flashed area: the sum of the flashes' areas. */
 static uint64_t put_flashes(const struct area *a, const struct set *final, uint8_t *room) {
     uint64_t flashed = 0;
     for (int k = 0; k < final->count; k++) {
@@ -237,6 +245,7 @@ struct keekaboor_outcome plain_cover(uint64_t width, uint64_t height, uint64_t a
     }
     o.flashes = (uint64_t)final.count;
     o.marks = put_marks(row, SIDE, mark_room);
-    o.copper = put_flashes(&a, &final, flash_room); /* the copper number */
+    o.copper = copper_number(&a);
+    o.flashed = put_flashes(&a, &final, flash_room);
     return o;
 }

@@ -24,10 +24,10 @@ static inline int row_at(int step, int height) { return height - 1 - step; }
 #define BOTTOM left
 #define TOP entered
 
-/* An area: a word for each row; the row in which each column's copper is entered and left, going by row_at. */
+/* An area: a word for each row; the columns with copper, and the row in which each one's is entered and left by row_at. */
 struct area {
     int width, height;
-    word row[SIDE];
+    word row[SIDE], columns;
     uint8_t entered[SIDE], left[SIDE];
 };
 
@@ -138,6 +138,7 @@ static int start(struct area *a, struct set *s, uint8_t shown[SIDE][SIDE]) {
     }
     for (word w = before; w; w &= w - 1)
         a->left[lowest(w)] = (uint8_t)row_at(a->height - 1, a->height);
+    a->columns = seen;
     return count;
 }
 
@@ -261,7 +262,15 @@ static uint64_t put_marks(word marked, const uint8_t row[SIDE], uint64_t most, u
     return count;
 }
 
-/* Rules 6 and 7. Gives the sum of the flashes' areas. */
+/* The columns are unbroken, so each one's ends tell how many of its squares are copper. */
+static uint64_t copper_number(const struct area *a) {
+    uint64_t count = 0;
+    for (word w = a->columns; w; w &= w - 1)
+        count += (uint64_t)(a->TOP[lowest(w)] - a->BOTTOM[lowest(w)] + 1);
+    return count;
+}
+
+/* Rules 6 and 7. Gives the flashed area: the sum of the flashes' areas. */
 static uint64_t put_flashes(const struct area *a, const struct set *final, uint8_t *room) {
     uint64_t flashed = 0;
     for (int first = 0; first < a->width; first++) {
@@ -318,6 +327,7 @@ struct keekaboor_outcome quick_cover(uint64_t width, uint64_t height, uint64_t a
     }
     o.flashes = (uint64_t)count;
     o.marks = put_marks(marked, row, SIDE, mark_room);
-    o.copper = put_flashes(&a, &final, flash_room); /* the copper number */
+    o.copper = copper_number(&a);
+    o.flashed = put_flashes(&a, &final, flash_room);
     return o;
 }

@@ -13,6 +13,7 @@ pub struct Outcome {
     pub flashes: u64,
     pub marks: u64,
     pub copper: u64,
+    pub flashed: u64,
 }
 
 /// What `keekaboor_read_job` returns.
@@ -125,25 +126,28 @@ mod linked {
         pub times: u64,
     }
 
+    /// How many fields the longest outcome has.
+    pub(super) const NUMBERS: usize = 7;
+
     /// An outcome's numbers in the order of its fields, and the processor's time that the calls took.
     pub(super) struct Reply {
-        pub numbers: [u64; 6],
+        pub numbers: [u64; NUMBERS],
         pub time: Duration,
     }
 
     impl Reply {
         fn outcome(&self) -> Outcome {
-            let [answer, place_x, place_y, flashes, marks, copper] = self.numbers;
-            Outcome { answer, place_x, place_y, flashes, marks, copper }
+            let [answer, place_x, place_y, flashes, marks, copper, flashed] = self.numbers;
+            Outcome { answer, place_x, place_y, flashes, marks, copper, flashed }
         }
 
         fn read_outcome(&self) -> ReadOutcome {
-            let [answer, place_x, place_y, width, height, allowance] = self.numbers;
+            let [answer, place_x, place_y, width, height, allowance, ..] = self.numbers;
             ReadOutcome { answer, place_x, place_y, width, height, allowance }
         }
 
         fn write_outcome(&self) -> WriteOutcome {
-            let [answer, place_x, place_y, length, _, _] = self.numbers;
+            let [answer, place_x, place_y, length, ..] = self.numbers;
             WriteOutcome { answer, place_x, place_y, length }
         }
     }
@@ -191,7 +195,7 @@ mod linked {
 /// On x86-64 the functions are linked in.
 #[cfg(all(feature = "linked", target_arch = "x86_64", not(feature = "far")))]
 mod direct {
-    use super::linked::{Engine, Function, Lent, Reply, Request, GUARD};
+    use super::linked::{Engine, Function, Lent, Reply, Request, GUARD, NUMBERS};
     use super::{Outcome, ReadOutcome, WriteOutcome};
     use crate::clock;
 
@@ -235,7 +239,7 @@ mod direct {
         // The three are separate allocations, so they do not overlap, and each has GUARD bytes before the lent part.
         let (a, b, c) = (a.whole[GUARD..].as_ptr(), b.whole[GUARD..].as_mut_ptr(), c.whole[GUARD..].as_mut_ptr());
         let [x, y, z] = request.numbers;
-        let mut numbers = [0; 6];
+        let mut numbers = [0; NUMBERS];
         let start = clock::now();
         for _ in 0..request.times {
             numbers = unsafe {
@@ -247,15 +251,15 @@ mod direct {
                             Engine::Plain => plain_cover,
                         };
                         let o = cover(x, y, z, a, len[0], b, len[1], c, len[2]);
-                        [o.answer, o.place_x, o.place_y, o.flashes, o.marks, o.copper]
+                        [o.answer, o.place_x, o.place_y, o.flashes, o.marks, o.copper, o.flashed]
                     }
                     Function::ReadJob => {
                         let o = keekaboor_read_job(a, len[0], b, len[1]);
-                        [o.answer, o.place_x, o.place_y, o.width, o.height, o.allowance]
+                        [o.answer, o.place_x, o.place_y, o.width, o.height, o.allowance, 0]
                     }
                     Function::WriteJob => {
                         let o = keekaboor_write_job(x, y, z, a, len[0], b, len[1]);
-                        [o.answer, o.place_x, o.place_y, o.length, 0, 0]
+                        [o.answer, o.place_x, o.place_y, o.length, 0, 0, 0]
                     }
                 }
             };
@@ -268,7 +272,7 @@ mod direct {
 /// one for each thread, spoken to over its standard input and output.
 #[cfg(all(feature = "linked", any(feature = "far", not(target_arch = "x86_64"))))]
 mod far {
-    use super::linked::{Engine, Function, Lent, Reply, Request, GUARD};
+    use super::linked::{Engine, Function, Lent, Reply, Request, GUARD, NUMBERS};
     use std::cell::RefCell;
     use std::io::{Read, Write};
     use std::process::{Child, Command, Stdio};
@@ -303,13 +307,13 @@ mod far {
             head.iter().for_each(|number| message.extend(number.to_le_bytes()));
             lent.iter().for_each(|part| message.extend(&part.whole));
             self.0.stdin.as_mut().unwrap().write_all(&message).expect("the far side listens");
-            let heads = 7 * 8;
+            let heads = (NUMBERS + 1) * 8;
             message.resize(heads + lent.iter().map(|part| part.whole.len()).sum::<usize>(), 0);
             self.0.stdout.as_mut().unwrap().read_exact(&mut message).expect("the far side answers");
             let (head, mut rest) = message.split_at(heads);
             let number = |i: usize| u64::from_le_bytes(head[8 * i..8 * i + 8].try_into().unwrap());
-            let numbers = [0, 1, 2, 3, 4, 5].map(number);
-            let time = Duration::from_nanos(number(6));
+            let numbers = std::array::from_fn(number);
+            let time = Duration::from_nanos(number(NUMBERS));
             for part in lent {
                 let (bytes, after) = rest.split_at(part.whole.len());
                 part.whole.copy_from_slice(bytes);

@@ -1,5 +1,5 @@
-//! Document 01's rules, written from the document alone, over sorted lists of intervals. The comments
-//! are the document's own words.
+//! Document 01's rules with document 02's changes, written from the documents alone, over sorted lists of
+//! intervals. The comments are the documents' own words.
 
 use crate::areas::Area;
 use crate::ffi::Outcome;
@@ -157,8 +157,13 @@ pub fn marks(area: &Area) -> Vec<(usize, usize)> {
     marks
 }
 
-/// The sum of the flashes' areas.
-pub fn copper_number(flashes: &[Flash]) -> u64 {
+/// The copper number counts the raster's copper squares, each once.
+pub fn copper_number(area: &Area) -> u64 {
+    area.squares().filter(|&(column, row)| area.copper(column, row)).count() as u64
+}
+
+/// The flashed area: the sum of flash areas.
+pub fn flashed_area(flashes: &[Flash]) -> u64 {
     flashes.iter().map(|[first, last, bottom, top]| ((last - first + 1) * (top - bottom + 1)) as u64).sum()
 }
 
@@ -240,7 +245,8 @@ pub fn cover(numbers: (u64, u64, u64), raster: &[u8], flash_room: usize, mark_ro
     let outcome = Outcome {
         flashes: flashes.len() as u64,
         marks: marks.len() as u64,
-        copper: copper_number(&flashes),
+        copper: copper_number(&area),
+        flashed: flashed_area(&flashes),
         ..Outcome::default()
     };
     Covered {

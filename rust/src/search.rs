@@ -43,12 +43,25 @@ fn rectangles(area: &Area) -> impl Iterator<Item = Rectangle> {
         .flat_map(move |(first, last)| pairs(height).map(move |(bottom, top)| Rectangle { first, last, bottom, top }))
 }
 
+/// The copper squares, each once.
+pub fn copper(area: &Area) -> impl Iterator<Item = (usize, usize)> + '_ {
+    area.squares().filter(|&(column, row)| area.copper(column, row))
+}
+
+/// The sum of the rectangles' areas.
+pub fn flashed(list: &[Rectangle]) -> u64 {
+    list.iter().map(|rectangle| rectangle.area() as u64).sum()
+}
+
+/// Whether some square lies in two rectangles of the list.
+pub fn shares_a_square(list: &[Rectangle]) -> bool {
+    list.iter().enumerate().any(|(i, a)| list[..i].iter().any(|b| b.squares().any(|square| a.holds(square))))
+}
+
 /// Whether the rectangles lie in the copper and together are the copper.
 pub fn is_cover(area: &Area, list: &[Rectangle]) -> bool {
     list.iter().all(|rectangle| rectangle.in_copper(area))
-        && area
-            .squares()
-            .all(|square| !area.copper(square.0, square.1) || list.iter().any(|rectangle| rectangle.holds(square)))
+        && copper(area).all(|square| list.iter().any(|rectangle| rectangle.holds(square)))
 }
 
 /// Whether no rectangle of copper squares holds both squares.

@@ -128,7 +128,7 @@ fn line(word: &str, numbers: &[u64]) -> String {
 pub fn printed(covered: &Covered) -> String {
     let o = &covered.outcome;
     let first = match o.answer {
-        0 => line("cover", &[o.flashes, o.copper]),
+        0 => line("cover", &[o.flashes, o.copper, o.flashed]),
         answer => line("refused", &[answer, o.place_x, o.place_y]),
     };
     let records = |word: &'static str, bytes: &[u8], size: usize| -> String {
@@ -146,8 +146,9 @@ pub fn parse_printed(text: &str) -> Option<Covered> {
         let numbers: Vec<u64> = fields.map(|field| field.parse().ok()).collect::<Option<_>>()?;
         let bytes = || numbers.iter().map(|&number| number as u8);
         match (at, word, &numbers[..]) {
-            (0, "cover", [flashes, copper]) => {
-                covered.outcome = Outcome { flashes: *flashes, copper: *copper, ..Outcome::default() }
+            (0, "cover", [flashes, copper, flashed]) => {
+                let (flashes, copper, flashed) = (*flashes, *copper, *flashed);
+                covered.outcome = Outcome { flashes, copper, flashed, ..Outcome::default() }
             }
             (0, "refused", [answer, x, y]) => {
                 covered.outcome = Outcome { answer: *answer, place_x: *x, place_y: *y, ..Outcome::default() }

@@ -67,9 +67,7 @@ fn stair() -> Area {
 #[test]
 fn document_01s_rows() {
     for row in common::rows() {
-        let (o, flashes, marks) = Call::of(&row.job.area, row.job.allowance).make();
-        let numbers = [o.answer, o.place_x, o.place_y, o.flashes, o.marks, o.copper];
-        assert_eq!((numbers, flashes, marks), row.wanted.outcome(), "{}", row.name);
+        assert_eq!(Call::of(&row.job.area, row.job.allowance).make(), row.wanted.outcome(), "{}", row.name);
     }
 }
 
@@ -82,7 +80,8 @@ fn full(width: u64, height: u64) -> Call {
 fn both_sides_of_the_limits_of_width_and_height() {
     for n in [1, 2, 63, 64] {
         for (width, height) in [(n, 1), (1, n), (n, 64), (64, n)] {
-            assert_eq!(full(width, height).outcome().copper, width * height);
+            let outcome = full(width, height).outcome();
+            assert_eq!((outcome.copper, outcome.flashed), (width * height, width * height));
         }
     }
     for n in [0, 65, 66, 255, 256, 257] {
@@ -145,9 +144,10 @@ fn sixty_four_flashes_fill_the_rooms() {
     let corners: Vec<_> = (0..64).map(|n| (n, n)).collect();
     let area = Area::of_columns(&corners);
     let outcome = Call::of(&area, 64).agrees_with_the_rules();
-    assert_eq!((outcome.answer, outcome.flashes, outcome.marks, outcome.copper), (0, 64, 64, 64));
+    let wanted = Outcome { flashes: 64, marks: 64, copper: 64, flashed: 64, ..Outcome::default() };
+    assert_eq!(outcome, wanted);
     let outcome = Call::of(&area, 63).agrees_with_the_rules();
-    assert_eq!((outcome.answer, outcome.flashes, outcome.marks, outcome.copper), (9, 0, 64, 0));
+    assert_eq!(outcome, Outcome { answer: 9, marks: 64, ..Outcome::default() });
 }
 
 #[test]
@@ -260,9 +260,11 @@ fn meets_the_demands(area: &Area) {
         }
         let list: Vec<_> = flashes.chunks(4).map(Rectangle::of_record).collect();
         assert!(search::is_cover(area, &list), "{area:?} {list:?}");
-        let copper = list.iter().map(|flash| flash.area() as u64).sum();
-        let wanted = Outcome { flashes: least, marks: least, copper, ..Outcome::default() };
+        let (copper, flashed) = (search::copper(area).count() as u64, search::flashed(&list));
+        let wanted = Outcome { flashes: least, marks: least, copper, flashed, ..Outcome::default() };
         assert_eq!(outcome, wanted, "{area:?} {allowance}");
+        assert!(copper <= flashed, "{area:?}");
+        assert_eq!(copper == flashed, !search::shares_a_square(&list), "{area:?} {list:?}");
     }
 }
 

@@ -3,13 +3,14 @@ from .ends import Failure
 
 # The numbers of each line, by its word. Those of `cover` after the first stand in a picture's caption under these names.
 LINES = {
-    "cover": ("flashes", "copper number"),
+    "cover": ("flashes", "copper number", "flashed area"),
     "flash": ("first column", "last column", "bottom row", "top row"),
     "mark": ("column", "row"),
     "refused": ("answer", "x", "y"),
 }
 
-HELP = """    cover    how many flashes, and the copper number (the sum of their areas)
+HELP = """    cover    how many flashes; the copper number (how many squares are copper); the flashed area (the
+             sum of the flashes' areas, where a square counts for each flash that holds it)
     flash    first column, last column, bottom row, top row; a line for each flash
     mark     column, row; as many as flashes. No two marks fit into one rectangle of copper, so
              fewer flashes cannot do

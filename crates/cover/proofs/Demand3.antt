@@ -10,7 +10,7 @@ use native.Mathlib.Decide.{decLt}
 use lib.ListN.{length, take, length-take}
 use borrow.Author.Tests.{lt-ltb, le-ltb}
 use Rattle.grid.specs.Answers.{allowanceShort}
-use Rattle.grid.specs.Squares.{Area, InGrid, Unbroken, Cover, Evidence}
+use Rattle.grid.specs.Squares.{Area, InGrid, Unbroken, Cover, Evidence, copperNumber}
 use Rattle.grid.specs.Raster.{areaOf}
 use Rattle.grid.proofs.Areas.{area-in-grid}
 use Rattle.grid.proofs.Pigeonhole.{pigeonhole, least}
@@ -34,13 +34,13 @@ module _ (a : Area) (w h k : ℕ) (f m : List ℕ) (grid : InGrid w h a) (unbrok
   enough-fits u = (flashes a w h, flashes-cover a w h grid unbroken, u)
 
   -- the two outcomes
-  is-covered : length (flashes a w h) ≤ k → answered a w h k f m ≡ covered (flashes a w h) (marks a w h) f m
+  is-covered : length (flashes a w h) ≤ k → answered a w h k f m ≡ covered (copperNumber a w h) (flashes a w h) (marks a w h) f m
   is-covered u = rw (le-ltb k (length (flashes a w h)) u)
 
   is-short : k < length (flashes a w h) → answered a w h k f m ≡ short (take (suc k) (marks a w h)) f m
   is-short u = rw (lt-ltb k (length (flashes a w h)) u)
 
-  covered-met : Met a (covered (flashes a w h) (marks a w h) f m)
+  covered-met : Met a (covered (copperNumber a w h) (flashes a w h) (marks a w h) f m)
   covered-met =
       let cover = flashes-cover a w h grid unbroken in
       record {

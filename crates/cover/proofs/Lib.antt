@@ -4,6 +4,7 @@ pub mod Shown
 pub mod Starting
 pub mod Heights
 pub mod Covering
+pub mod Overlap
 pub mod InOrder
 pub mod Independence
 pub mod MarkLaws

@@ -8,6 +8,7 @@ use Rattle.method.specs.Final.{leftmost, reduced, final}
 use Rattle.method.specs.Strike.{heldOnce, strike, least, found, marked}
 use Rattle.grid.specs.Answers.{orElse, firstRefusal}
 use Rattle.grid.specs.Rooms.{written}
+use Rattle.grid.specs.Squares.{gridSquares, copperNumber}
 use Rattle.grid.specs.Raster.{firstBad, gap, brokenFrom}
 use Rattle.cover.specs.Slices.{endsLeft, endsRight, copperAlong, slice, shown, highestShown, starting}
 use Rattle.cover.specs.Flashes.{flash, flashes, flashedArea}
@@ -19,6 +20,6 @@ abbrev given : Case → Given
 given c = coverGives (c .width) (c .height) (c .allowance) (bytes c) flashesLent marksLent
 
 pub rows-hold : map given table ≡ map expected table
-unfolding coveredInside dependent minimal outermost meets reduce leftmost reduced final heldOnce strike least found marked firstBad gap
+unfolding gridSquares copperNumber coveredInside dependent minimal outermost meets reduce leftmost reduced final heldOnce strike least found marked firstBad gap
     brokenFrom endsLeft endsRight copperAlong slice shown highestShown starting flash flashes flashedArea mark byColumn marks written orElse firstRefusal orWork coverGives
 rows-hold = refl

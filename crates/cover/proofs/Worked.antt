@@ -12,7 +12,7 @@ use Rattle.method.specs.Final.{final}
 use Rattle.method.proofs.Final.{final-listed}
 use Rattle.method.proofs.Marks.{final-short}
 use Rattle.grid.specs.Limits.{side}
-use Rattle.grid.specs.Squares.{Area}
+use Rattle.grid.specs.Squares.{Area, copperNumber}
 use Rattle.intervals.specs.Table.{setOf, tableOf, Tabled}
 use Rattle.intervals.proofs.TableLaws.{set-table, tabled}
 use Rattle.cover.specs.Slices.{starting}
@@ -58,7 +58,7 @@ module _ (a : Area) (w h : ℕ) (fits : w ≤ side) where
           (λ i. record { outcome = (e ∙ ap shortOf c) i; flashesAfter = f; marksAfter = b i })
 
       -- flashes within the allowance
-      pub work-done : {f f′ m m′ : List ℕ} {r : ℕ} {d : Flashed} {o : Outcome} → n ≤ k → o ≡ coveredOf d r
+      pub work-done : {f f′ m m′ : List ℕ} {r : ℕ} {d : Flashed} {o : Outcome} → n ≤ k → o ≡ coveredOf (copperNumber a w h) d r
           → FlashesDone (map (flash a h) (setOf w t)) f d f′ → MarksDone (take side (marks a w h)) m r m′
           → record { outcome = o; flashesAfter = f′; marksAfter = m′ } ≡ answered a w h k f m
       work-done {f} {m = m} u e A B =
@@ -69,4 +69,4 @@ module _ (a : Area) (w h : ℕ) (fits : w ≤ side) where
           let l = B .counted ∙ ap length all in
           let y = B .room ∙ ap (λ ss. marksWritten ss m) all in
           rw (le-ltb k (length (flashes a w h)) (omega (arith, work-size size)))
-          (λ i. record { outcome = (e ∙ (λ j. coveredOf (record { count = c j; area = o j }) (l j))) i; flashesAfter = x i; marksAfter = y i })
+          (λ i. record { outcome = (e ∙ (λ j. coveredOf (copperNumber a w h) (record { count = c j; area = o j }) (l j))) i; flashesAfter = x i; marksAfter = y i })

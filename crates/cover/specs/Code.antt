@@ -120,14 +120,14 @@ pub record MarksDone (ss : List Square) (m : List ℕ) (count : ℕ) (m′ : Lis
 
 -- an answer that refuses, as an outcome
 abbrev pub outcomeOf : Answer → Outcome
-outcomeOf r = record { answer = r .number; «place_x» = r .x; «place_y» = r .y; flashes = 0; marks = 0; copper = 0 }
+outcomeOf r = record { answer = r .number; «place_x» = r .x; «place_y» = r .y; flashes = 0; marks = 0; copper = 0; flashed = 0 }
 
 -- the two outcomes of the work
 abbrev pub shortOf : ℕ → Outcome
-shortOf n = record { answer = allowanceShort; «place_x» = 0; «place_y» = 0; flashes = 0; marks = n; copper = 0 }
+shortOf n = record { answer = allowanceShort; «place_x» = 0; «place_y» = 0; flashes = 0; marks = n; copper = 0; flashed = 0 }
 
-abbrev pub coveredOf : Flashed → ℕ → Outcome
-coveredOf done n = record { answer = 0; «place_x» = 0; «place_y» = 0; flashes = done .count; marks = n; copper = done .area }
+abbrev pub coveredOf : ℕ → Flashed → ℕ → Outcome
+coveredOf copper done n = record { answer = 0; «place_x» = 0; «place_y» = 0; flashes = done .count; marks = n; copper = copper; flashed = done .area }
 
 -- the chain of checks in two parts: those that need no look at the raster's bytes, of width w, height h, allowance k and the lengths of raster, flash room
 -- and mark room; and those of the raster's bytes

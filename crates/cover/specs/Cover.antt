@@ -8,10 +8,10 @@ use lib.Dec.{leb, ltb, eqb}
 use lib.ListN.{length, take}
 use Rattle.grid.specs.Limits.{allowanceLimit, flashRoom, markRoom}
 use Rattle.grid.specs.Answers.{check, checkAt, firstRefusal, sizeOut, rasterLength, flashRoomShort, markRoomShort, allowanceOut, badByte, brokenColumn, allowanceShort}
-use Rattle.grid.specs.Squares.{Area, Rectangle, Square}
+use Rattle.grid.specs.Squares.{Area, Rectangle, Square, copperNumber}
 use Rattle.grid.specs.Raster.{sizeFits, lengthFits, areaOf, badSquare, brokenSquare}
 use Rattle.grid.specs.declared.answers.Answer.{Answer}
-use Rattle.cover.specs.Flashes.{flashes, copperNumber}
+use Rattle.cover.specs.Flashes.{flashes, flashedArea}
 use Rattle.cover.specs.Marks.{marks}
 use Rattle.cover.specs.Records.{flashesWritten, marksWritten}
 use Rattle.cover.specs.declared.entry.Outcome.{Outcome}
@@ -22,10 +22,10 @@ pub record Given : Type 0 where
   pub flashesAfter : List ℕ
   pub marksAfter : List ℕ
 
--- "On a refusal every count [and] the copper number .. are returned as 0, and nothing is written"
+-- "On a refusal every count [and] the copper number .. are returned as 0, and nothing is written"; the flashed area is "0 on a refusal" (02, R-1)
 abbrev pub refusedAt : ℕ → ℕ → ℕ → List ℕ → List ℕ → Given
 refusedAt n x y f m = record {
-  outcome = record { answer = n; «place_x» = x; «place_y» = y; flashes = 0; marks = 0; copper = 0 };
+  outcome = record { answer = n; «place_x» = x; «place_y» = y; flashes = 0; marks = 0; copper = 0; flashed = 0 };
   flashesAfter = f;
   marksAfter = m;
 }
@@ -33,15 +33,15 @@ refusedAt n x y f m = record {
 -- "answer 9 alone reports k + 1 marks and writes them, the flash room staying untouched"
 abbrev pub short : List Square → List ℕ → List ℕ → Given
 short ss f m = record {
-  outcome = record { answer = allowanceShort; «place_x» = 0; «place_y» = 0; flashes = 0; marks = length ss; copper = 0 };
+  outcome = record { answer = allowanceShort; «place_x» = 0; «place_y» = 0; flashes = 0; marks = length ss; copper = 0; flashed = 0 };
   flashesAfter = f;
   marksAfter = marksWritten ss m;
 }
 
--- "A success also gives the copper number"
-abbrev pub covered : List Rectangle → List Square → List ℕ → List ℕ → Given
-covered qs ss f m = record {
-  outcome = record { answer = 0; «place_x» = 0; «place_y» = 0; flashes = length qs; marks = length ss; copper = copperNumber qs };
+-- "A success also gives the copper number": "the raster's copper squares, each once"; and the flashed area (02, R-1)
+abbrev pub covered : ℕ → List Rectangle → List Square → List ℕ → List ℕ → Given
+covered n qs ss f m = record {
+  outcome = record { answer = 0; «place_x» = 0; «place_y» = 0; flashes = length qs; marks = length ss; copper = n; flashed = flashedArea qs };
   flashesAfter = flashesWritten qs f;
   marksAfter = marksWritten ss m;
 }
@@ -51,7 +51,7 @@ abbrev pub answered : Area → ℕ → ℕ → ℕ → List ℕ → List ℕ →
 answered a w h k f m =
     cond (ltb k (length (flashes a w h)))
     (short (take (suc k) (marks a w h)) f m)
-    (covered (flashes a w h) (marks a w h) f m)
+    (covered (copperNumber a w h) (flashes a w h) (marks a w h) f m)
 
 -- width w, height h, allowance k; "Cover: 1, 2, 3, 4, 6, 7, 8, 9.": the checks before 9
 abbrev pub coverChecks : ℕ → ℕ → ℕ → List ℕ → List ℕ → List ℕ → List Answer

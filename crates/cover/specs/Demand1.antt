@@ -11,5 +11,6 @@ pub record Refused (f m : List ℕ) (g : Given) : Type 0 where
   pub flash-room : g .flashesAfter ≡ f
   pub no-flashes : g .outcome .flashes ≡ 0
   pub no-copper : g .outcome .copper ≡ 0
+  pub no-area : g .outcome .flashed ≡ 0
   pub mark-room : g .outcome .answer ≢ allowanceShort → g .marksAfter ≡ m
   pub no-marks : g .outcome .answer ≢ allowanceShort → g .outcome .marks ≡ 0

@@ -1,4 +1,4 @@
--- Flashes (rules 6 and 7), and the copper number.
+-- Flashes (rules 6 and 7), and the flashed area.
 use mathlib.Core.List.{List, [], _∷_, map}
 use mathlib.Core.Option.{Option, none, some}
 use Prim.Native.Nat.{ℕ, suc, _+_, _-_, _*_}
@@ -30,10 +30,7 @@ flashes a w h = map (flash a h) (final w (starting a w h))
 abbrev pub areaOfFlash : Rectangle → ℕ
 areaOfFlash q = suc (q .last - q .first) * suc (q .top - q .bottom)
 
+-- "The sum of flash areas stays as a second number, the flashed area" (02, R-1)
 unfoldable pub flashedArea : List Rectangle → ℕ
 flashedArea [] = 0
 flashedArea (q ∷ qs) = areaOfFlash q + flashedArea qs
-
--- "the copper number, from which plating sets its current: the sum of the flashes' areas"
-abbrev pub copperNumber : List Rectangle → ℕ
-copperNumber qs = flashedArea qs

@@ -8,7 +8,7 @@ use Rattle.grid.specs.Squares.{Rectangle, Square}
 use Rattle.cover.specs.Records.{flashesWritten, marksWritten}
 use Rattle.cover.specs.Cover.{Given}
 
--- a row of the table: width, height, allowance and the raster's rows from the bottom up; answer, place, flashes, marks and copper number
+-- a row of the table: width, height, allowance and the raster's rows from the bottom up; answer, place, flashes, marks, copper number and flashed area
 pub record Case : Type 0 where
   pub width : ℕ
   pub height : ℕ
@@ -20,6 +20,7 @@ pub record Case : Type 0 where
   pub flashes : List Rectangle
   pub marks : List Square
   pub copper : ℕ
+  pub flashed : ℕ
 
 -- both rooms are lent full of sevens, so that a byte past the records shows that it stayed
 abbrev pub flashesLent : List ℕ
@@ -41,6 +42,7 @@ expected c = record {
         flashes = length (c .flashes);
         marks = length (c .marks);
         copper = c .copper;
+        flashed = c .flashed;
       };
   flashesAfter = flashesWritten (c .flashes) flashesLent;
   marksAfter = marksWritten (c .marks) marksLent;
@@ -68,6 +70,7 @@ table =
       flashes = q 0 0 0 0 ∷ [];
       marks = s 0 0 ∷ [];
       copper = 1;
+      flashed = 1;
     }
     ∷
     -- 2 by 2, no copper, allowance 0
@@ -82,6 +85,7 @@ table =
       flashes = [];
       marks = [];
       copper = 0;
+      flashed = 0;
     }
     ∷
     -- plus
@@ -95,7 +99,8 @@ table =
       y = 0;
       flashes = q 0 2 1 1 ∷ q 1 1 0 2 ∷ [];
       marks = s 0 1 ∷ s 1 2 ∷ [];
-      copper = 6;
+      copper = 5;
+      flashed = 6;
     }
     ∷
     -- step: 0-1, 1-2
@@ -110,6 +115,7 @@ table =
       flashes = q 0 0 0 1 ∷ q 1 1 1 2 ∷ [];
       marks = s 0 0 ∷ s 1 2 ∷ [];
       copper = 4;
+      flashed = 4;
     }
     ∷
     -- stair: 0-1, 1-2, 2-3
@@ -124,6 +130,7 @@ table =
       flashes = q 0 0 0 1 ∷ q 1 1 1 2 ∷ q 2 2 2 3 ∷ [];
       marks = s 0 0 ∷ s 1 2 ∷ s 2 3 ∷ [];
       copper = 6;
+      flashed = 6;
     }
     ∷
     -- double step: 0-1, 1-2, 3-4, 4-5
@@ -138,6 +145,7 @@ table =
       flashes = q 0 0 0 1 ∷ q 1 1 1 2 ∷ q 2 2 3 4 ∷ q 3 3 4 5 ∷ [];
       marks = s 0 0 ∷ s 1 2 ∷ s 2 3 ∷ s 3 5 ∷ [];
       copper = 8;
+      flashed = 8;
     }
     ∷
     -- cup: 0-2, 0-0, 0-2
@@ -151,7 +159,8 @@ table =
       y = 0;
       flashes = q 0 0 0 2 ∷ q 0 2 0 0 ∷ q 2 2 0 2 ∷ [];
       marks = s 0 2 ∷ s 1 0 ∷ s 2 2 ∷ [];
-      copper = 9;
+      copper = 7;
+      flashed = 9;
     }
     ∷
     -- corner: 0-0, 1-1
@@ -166,6 +175,7 @@ table =
       flashes = q 0 0 0 0 ∷ q 1 1 1 1 ∷ [];
       marks = s 0 0 ∷ s 1 1 ∷ [];
       copper = 2;
+      flashed = 2;
     }
     ∷
     -- stair, allowance 2
@@ -180,6 +190,7 @@ table =
       flashes = [];
       marks = s 0 0 ∷ s 1 2 ∷ s 2 3 ∷ [];
       copper = 0;
+      flashed = 0;
     }
     ∷
     -- cup, allowance 1
@@ -194,6 +205,7 @@ table =
       flashes = [];
       marks = s 0 2 ∷ s 1 0 ∷ [];
       copper = 0;
+      flashed = 0;
     }
     ∷
     -- ring of 3 by 3, centre empty
@@ -208,6 +220,7 @@ table =
       flashes = [];
       marks = [];
       copper = 0;
+      flashed = 0;
     }
     ∷
     []

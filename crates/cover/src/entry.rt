@@ -36,6 +36,7 @@ pub struct Outcome {
     pub flashes: u64,
     pub marks: u64,
     pub copper: u64,
+    pub flashed: u64,
 }
 
 // A refusal's whole outcome.
@@ -49,6 +50,7 @@ fn refused(a: Answer) -> Outcome
         flashes: 0,
         marks: 0,
         copper: 0,
+        flashed: 0,
     }
 }
 
@@ -63,11 +65,12 @@ fn short(marks: usize) -> Outcome
         flashes: 0,
         marks: marks as u64,
         copper: 0,
+        flashed: 0,
     }
 }
 
-fn covered(flashed: Flashed, marks: usize) -> Outcome
-    ensures { λ r. ⌜ r ≡ coveredOf flashed marks ⌝ }
+fn covered(copper: usize, flashed: Flashed, marks: usize) -> Outcome
+    ensures { λ r. ⌜ r ≡ coveredOf copper flashed marks ⌝ }
 {
     Outcome {
         answer: answers::DONE,
@@ -75,7 +78,8 @@ fn covered(flashed: Flashed, marks: usize) -> Outcome
         place_y: 0,
         flashes: flashed.count as u64,
         marks: marks as u64,
-        copper: flashed.area as u64,
+        copper: copper as u64,
+        flashed: flashed.area as u64,
     }
 }
 
@@ -167,7 +171,7 @@ pub fn cover_area(job: Job, raster: &[u8], flash_room: &mut [u8], mark_room: &mu
     }
     let flashed = write_flashes(size, raster, &work, flash_room);
     let marks = mark_area(size, raster, &mut set, &mut work, limits::SIDE, mark_room);
-    covered(flashed, marks)
+    covered(raster::copper_number(size, raster), flashed, marks)
 }
 
 #[no_mangle]

@@ -8,6 +8,7 @@ use Rattle.method.specs.Reduce.{outermost, meets, reduce}
 use Rattle.method.specs.Final.{leftmost, reduced, final}
 use Rattle.method.specs.Strike.{heldOnce, strike, least, found, marked}
 use Rattle.grid.specs.Answers.{orElse, firstRefusal}
+use Rattle.grid.specs.Squares.{gridSquares, copperNumber}
 use Rattle.grid.specs.Raster.{firstBad, gap, brokenFrom}
 use Rattle.grid.specs.Rooms.{written}
 use Rattle.text.specs.Words.{begins}
@@ -32,7 +33,7 @@ plusText =
     ++ (114 ∷ 111 ∷ 119 ∷ 9 ∷ 48 ∷ 9 ∷ 46 ∷ 35 ∷ 46 ∷ 10 ∷ [])
 
 pub plus-prints : programText plusText ≡ fiveLines
-unfolding programText judged shapeAt lineAt numbersFrom line recordLines rowsFrom rowAt rasterFrom rowLine rowHead rowsLength textLength digits decimal run value begins
+unfolding gridSquares copperNumber programText judged shapeAt lineAt numbersFrom line recordLines rowsFrom rowAt rasterFrom rowLine rowHead rowsLength textLength digits decimal run value begins
     coveredInside dependent minimal outermost meets reduce leftmost reduced final heldOnce strike least found marked firstBad gap brokenFrom
     endsLeft endsRight copperAlong slice shown highestShown starting flash flashes flashedArea mark byColumn marks written orElse firstRefusal orWork coverGives
     printed

@@ -43,6 +43,7 @@ fn print_refusal(number: u64, x: u64, y: u64, out: &mut [u8]) -> usize
         flashes: 0,
         marks: 0,
         copper: 0,
+        flashed: 0,
     };
     print_outcome(outcome, &none, &none, out)
 }

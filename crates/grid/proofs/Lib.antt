@@ -5,6 +5,8 @@ pub mod Chain
 pub mod Next
 pub mod Gaps
 pub mod Areas
+pub mod GridSquares
+pub mod CopperBytes
 pub mod Leftmost
 pub mod Broken
 pub mod Pigeonhole

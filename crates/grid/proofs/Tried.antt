@@ -14,7 +14,7 @@ use Rattle.lists.specs.Lists.{all, upTo}
 use Rattle.lists.proofs.Members.{all-of}
 use Rattle.lists.proofs.Ranges.{in-from}
 use lib.ListN.{length}
-use Rattle.grid.specs.Squares.{Square, square, Rectangle, Within, InCopper, Copper, Unbroken, Least, Independent, rectangleAt, squareAt}
+use Rattle.grid.specs.Squares.{Square, square, gridSquares, copperNumber, Rectangle, Within, InCopper, Copper, Unbroken, Least, Independent, rectangleAt, squareAt}
 use Rattle.grid.specs.Raster.{areaOf, firstBad, badSquare, gap, brokenFrom, brokenSquare, bottomOf, topOf}
 use Rattle.grid.proofs.Areas.{area-in-grid}
 use Rattle.grid.proofs.Broken.{raster-unbroken}
@@ -69,7 +69,12 @@ bad-found : badSquare 3 (0 ∷ 1 ∷ 0 ∷ 1 ∷ 1 ∷ 2 ∷ 0 ∷ 3 ∷ 0 ∷ [
 unfolding firstBad
 bad-found = refl
 
--- the plus: its marks are independent, and the ends of its upright are not
+-- the plus: "5 squares are there"
+plus-squares : copperNumber (areaOf 3 3 plus) 3 3 ≡ 5
+unfolding copperNumber gridSquares
+plus-squares = refl
+
+-- its marks are independent, and the ends of its upright are not
 plus-apart : Independent (areaOf 3 3 plus) (square 0 1) (square 1 2)
 plus-apart = independent (areaOf 3 3 plus) (square 0 1) (square 1 2) .1 refl
 

@@ -2,10 +2,11 @@
 -- A square is a column and a row; an area says of each square whether it is copper.
 use mathlib.Core.Path.{_≡_}
 use mathlib.Core.Bool.{Bool, true, false}
-use mathlib.Core.List.{List}
+use mathlib.Core.List.{List, map}
 use mathlib.Core.Logic.{_≢_}
 use Prim.Native.Nat.{ℕ, _≤_, _<_}
 use lib.ListN.{length, getD}
+use Rattle.lists.specs.Lists.{count, gather, upTo}
 
 -- "A copper area is a set of unit squares in a grid."
 abbrev pub Area : Type 0
@@ -24,6 +25,14 @@ Copper a s = a (s .column) (s .row) ≡ true
 -- all copper lies in the columns 0 to w - 1 and the rows 0 to h - 1
 abbrev pub InGrid : ℕ → ℕ → Area → Type 0
 InGrid w h a = (c r : ℕ) → a c r ≡ true → (c < w) × (r < h)
+
+-- the squares of a grid of w columns and h rows, each once, in raster order: "row 0 first, each row from column 0"
+unfoldable pub gridSquares : ℕ → ℕ → List Square
+gridSquares w h = gather (λ r. map (λ c. square c r) (upTo w)) (upTo h)
+
+-- "the copper number counts the raster's copper squares, each once"
+unfoldable pub copperNumber : Area → ℕ → ℕ → ℕ
+copperNumber a w h = count (λ s. a (s .column) (s .row)) (gridSquares w h)
 
 -- no empty square with copper both below and above it in its column
 abbrev pub Unbroken : Area → Type 0
@@ -71,6 +80,10 @@ squareAt ss k = getD ss k (square 0 0)
 pub record Cover (a : Area) (qs : List Rectangle) : Type 0 where
   pub inside : (k : ℕ) → k < length qs → InCopper a (rectangleAt qs k)
   pub whole : (s : Square) → Copper a s → (k : ℕ) × (k < length qs) × Within (rectangleAt qs k) s
+
+-- no two rectangles of the list, by position, share a square
+abbrev pub NoneShared : List Rectangle → Type 0
+NoneShared qs = (j k : ℕ) → j < length qs → k < length qs → j ≢ k → (s : Square) → Within (rectangleAt qs j) s → Within (rectangleAt qs k) s → ⊥
 
 -- "the least number of rectangles whose union is the area"
 pub record Least (a : Area) (m : ℕ) : Type 0 where

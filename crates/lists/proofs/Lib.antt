@@ -11,3 +11,4 @@ pub mod Related
 pub mod Keyed
 pub mod Blocks
 pub mod Maps
+pub mod Totals

@@ -28,6 +28,7 @@ pub record Numbers (o : Outcome) : Type 0 where
   pub x : o .«place_x» < 2 ^ 64
   pub y : o .«place_y» < 2 ^ 64
   pub copper : o .copper < 2 ^ 64
+  pub flashed : o .flashed < 2 ^ 64
 
 wide : (n : ℕ) → n < 2 ^ 64 → length (decimal n) ≤ length (decimal (2 ^ 64 - 1))
 wide n h = digits-grow (2 ^ 64 - 1) n (omega arith)
@@ -37,11 +38,13 @@ module _ (o : Outcome) (numbers : Numbers o) where
   cover-line-most few =
       omega (
         arith,
-        line-more coverWord (o .flashes) (o .copper ∷ []),
-        line-more coverWord (o .copper) [],
+        line-more coverWord (o .flashes) (o .copper ∷ o .flashed ∷ []),
+        line-more coverWord (o .copper) (o .flashed ∷ []),
+        line-more coverWord (o .flashed) [],
         line-none coverWord,
         digits-grow side (o .flashes) few,
         wide (o .copper) (numbers .copper),
+        wide (o .flashed) (numbers .flashed),
       )
 
   refused-line-most : length (refusedLine o) ≤ length refusedWord + 3 * fieldRoom (2 ^ 64 - 1) + 1
@@ -94,7 +97,7 @@ module _ (o : Outcome) (numbers : Numbers o) where
         (λ n. omega (arith, ap length (print-refused o m f n), length-append (refusedLine o) (marksAfter o m), refused-line-most, refusal-shorter, after-most))
 
 -- and one is as long
-pub print-reached : (o : Outcome) × (f : List ℕ) × (m : List ℕ) × (o .flashes ≤ side) × (o .marks ≤ side) × (o .copper < 2 ^ 64) × (length (printed o f m) ≡ printRoom)
+pub print-reached : (o : Outcome) × (f : List ℕ) × (m : List ℕ) × (o .flashes ≤ side) × (o .marks ≤ side) × (o .copper < 2 ^ 64) × (o .flashed < 2 ^ 64) × (length (printed o f m) ≡ printRoom)
 unfolding printed line recordLines decimal digits
 print-reached =
-    (record { answer = 0; «place_x» = 0; «place_y» = 0; flashes = side; marks = side; copper = 2 ^ 64 - 1 }, replicate (side * flashRecord) 255, replicate (side * markRecord) 255, omega arith, omega arith, omega arith, refl)
+    (record { answer = 0; «place_x» = 0; «place_y» = 0; flashes = side; marks = side; copper = 2 ^ 64 - 1; flashed = 2 ^ 64 - 1 }, replicate (side * flashRecord) 255, replicate (side * markRecord) 255, omega arith, omega arith, omega arith, omega arith, refl)

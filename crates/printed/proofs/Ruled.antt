@@ -1,4 +1,4 @@
--- On success the printed lines are those of the flashes and marks that document 01's rules give, in the rules' order, with their number and the copper number.
+-- On success the printed lines are those of the flashes and marks that document 01's rules give, in the rules' order, with their number, the copper number and the flashed area.
 -- The rooms hold those lists (demand 2), and the lines are read off the rooms, record by record.
 use mathlib.Core.Path.{_≡_, refl, sym, ap, _∙_}
 use mathlib.Core.List.{List, [], _∷_, _++_, map}
@@ -9,9 +9,9 @@ use lib.ListN.{length, drop, length-take, length-drop}
 use Rattle.lists.specs.Lists.{gather, from, upTo}
 use Rattle.lists.proofs.Truth.{bcase}
 use Rattle.grid.specs.Limits.{side, flashRecord, markRecord}
-use Rattle.grid.specs.Squares.{Area, Rectangle, Square}
+use Rattle.grid.specs.Squares.{Area, Rectangle, Square, copperNumber}
 use Rattle.grid.specs.Raster.{areaOf}
-use Rattle.cover.specs.Flashes.{flashes, copperNumber}
+use Rattle.cover.specs.Flashes.{flashes, flashedArea}
 use Rattle.cover.specs.Marks.{marks}
 use Rattle.cover.specs.Records.{flashBytes, markBytes, flashOf, markOf, flashIn, markIn, flashesIn, marksIn}
 use Rattle.cover.specs.Cover.{Given, answered, coverGives}
@@ -86,7 +86,7 @@ pub ruled : (w h k : ℕ) (raster f m : List ℕ) →
     let g = coverGives w h k raster f m in
     g .outcome .answer ≡ 0
     → printed (g .outcome) (g .flashesAfter) (g .marksAfter)
-    ≡ line coverWord (length (flashes a w h) ∷ copperNumber (flashes a w h) ∷ [])
+    ≡ line coverWord (length (flashes a w h) ∷ copperNumber a w h ∷ flashedArea (flashes a w h) ∷ [])
     ++ (gather (λ q. line flashWord (flashBytes q)) (flashes a w h) ++ gather (λ s. line markWord (markBytes s)) (marks a w h))
 ruled w h k raster f m e =
     let g = coverGives w h k raster f m in
@@ -101,5 +101,6 @@ ruled w h k raster f m e =
       s .marks-ruled,
       s .flash-count,
       s .copper-number,
+      s .flashed-area,
       s .flashes-ruled,
     )

@@ -24,9 +24,9 @@ markWord = 109 ∷ 97 ∷ 114 ∷ 107 ∷ []
 abbrev pub refusedWord : List ℕ
 refusedWord = 114 ∷ 101 ∷ 102 ∷ 117 ∷ 115 ∷ 101 ∷ 100 ∷ []
 
--- "The fields of `cover` are the flash count and the copper number;"
+-- "The fields of `cover` are the flash count and the copper number;" the flashed area is "printed as a third field" (02, R-1)
 abbrev pub coverLine : Outcome → List ℕ
-coverLine o = line coverWord (o .flashes ∷ o .copper ∷ [])
+coverLine o = line coverWord (o .flashes ∷ o .copper ∷ o .flashed ∷ [])
 
 -- "those of `flash` and `mark` are the record bytes in decimal.": a line for each record, in the order of the room
 abbrev pub flashLines : ℕ → List ℕ → List ℕ
@@ -54,7 +54,7 @@ abbrev pub byteRoom : ℕ
 byteRoom = fieldRoom (2 ^ 8 - 1)
 
 abbrev pub coverLineRoom : ℕ
-coverLineRoom = length coverWord + fieldRoom side + fieldRoom (2 ^ 64 - 1) + 1
+coverLineRoom = length coverWord + fieldRoom side + 2 * fieldRoom (2 ^ 64 - 1) + 1
 
 abbrev pub flashLineRoom : ℕ
 flashLineRoom = length flashWord + flashRecord * byteRoom + 1

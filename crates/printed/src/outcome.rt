@@ -17,7 +17,7 @@ use text::write::NUMBER_DIGITS;
 use text::write::SIDE_DIGITS;
 
 // The longest line of each kind: its word, a tab and the most digits for each field, and the line feed.
-const COVER_LINE_ROOM: usize = 5 + (1 + SIDE_DIGITS) + (1 + NUMBER_DIGITS) + 1;
+const COVER_LINE_ROOM: usize = 5 + (1 + SIDE_DIGITS) + 2 * (1 + NUMBER_DIGITS) + 1;
 
 const FLASH_LINE_ROOM: usize = 5 + FLASH_RECORD * (1 + BYTE_DIGITS) + 1;
 
@@ -30,7 +30,7 @@ fn put_cover_line(out: &mut [u8], spot: usize, outcome: Outcome) -> usize
     requires { ⌜ spot + length (coverLine outcome) ≤ length (now out) ⌝ }
     ensures { λ r. ⌜ Written (now (out .entry)) spot (coverLine outcome) r (now (out .exit)) ⌝ }
 {
-    let numbers = [outcome.flashes, outcome.copper];
+    let numbers = [outcome.flashes, outcome.copper, outcome.flashed];
     put_line(out, spot, b"cover", &numbers)
 }
 

@@ -4,6 +4,7 @@ use borrow.Author.Needs.{needs}
 use lib.ListN.{length}
 use Rattle.grid.proofs.Edges.{number}
 use Rattle.intervals.specs.Table.{setOf}
+use Rattle.cover.specs.Code.{coveredOf}
 use Rattle.cover.proofs.MarkTurns.{width-tabled}
 use Rattle.cover.proofs.Worked.{work-tabled, work-short, work-refused, work-done}
 use Rattle.cover.proofs.entry.cover_area.Statement.{statement}
@@ -42,14 +43,18 @@ write-flashes-requires c κs =
     let q = a .start-area .ensures .1 in
     (s .pre .0, (work-tabled _ _ _ n q, work-short _ _ _ n q, s .pre .1 .1))
 
+copper-number-requires : tie.Need-copper-number-requires
+copper-number-requires c κs = start (c .before .before .before .before .before .before .before .before .before .before .before .before .before .before .before .before) .pre .0
+
 returns-2 : tie.Need-returns-2
 returns-2 c =
-    let m = c .before .before .before in
+    let m = c .before .before .before .before in
     let f = m .before .before .before .before .before .before in
     let e = f .before .before .before in
     let z = e .before .before in
     let a = z .before .before .before in
-    work-done _ _ _ (start a .pre .0 .narrow) (a .start-area .ensures .1) (counted z) (e .if1 .left) (c .covered .ensures) (f .write-flashes .ensures) (m .mark-area2 .ensures)
+    let done = c .covered .ensures ∙ ap (λ n. coveredOf n (f .write-flashes .result) (m .mark-area2 .result)) (c .before .copper-number .ensures) in
+    work-done _ _ _ (start a .pre .0 .narrow) (a .start-area .ensures .1) (counted z) (e .if1 .left) done (f .write-flashes .ensures) (m .mark-area2 .ensures)
 
 pub cover-area-spec : {M : Type 1} → statement M
 cover-area-spec =
@@ -67,6 +72,7 @@ cover-area-spec =
     returns
     write-flashes-requires
     (λ c κs. search needs)
+    copper-number-requires
     (λ c κs. search needs)
     (λ c. search needs)
     (λ c. search needs)

@@ -25,7 +25,7 @@ begun c =
     start (now (a .out)) 0 text
     (omega (
       arith,
-      print-most (a .outcome) record { answer = omega arith; x = omega arith; y = omega arith; copper = omega arith } (now (a .flash-room)) (now (a .mark-room)) (b .pre .few-flashes) (b .pre .few-marks)
+      print-most (a .outcome) record { answer = omega arith; x = omega arith; y = omega arith; copper = omega arith; flashed = omega arith } (now (a .flash-room)) (now (a .mark-room)) (b .pre .few-flashes) (b .pre .few-marks)
           (bytes-within (now (a .flash-room)) (λ i. c .before .before .before .shared-slice-known .given i .fits)) (bytes-within (now (a .mark-room)) (λ i. c .before .before .shared-slice-known2 .given i .fits)),
     ))
 

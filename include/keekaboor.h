@@ -89,8 +89,9 @@ struct keekaboor_outcome {
  * Covers an area. On success flash_room begins with `flashes` records of four bytes: first column, last
  * column, bottom row, top row, all inclusive, in the order of first column, then last column; mark_room
  * begins with `marks` records of two bytes: column and row, in the order of columns; and `marks` equals
- * `flashes`. `copper` is at most `flashed`, and equal to it exactly where no two flashes share a square. An area
- * without copper has no flashes and no marks, and both are 0.
+ * `flashes`. A mark stands for a slice, a run of copper along a row that cannot be made longer, and lies on the
+ * lowest row that has this slice. `copper` is at most `flashed`, and equal to it exactly where no two flashes
+ * share a square. An area without copper has no flashes and no marks, and both are 0.
  *
  * Refusals, the first that applies: 1, 2, 3, 4, 6, 7, 8, 9. With 9, and an allowance of k, mark_room
  * begins with k + 1 marks, no two in one rectangle of copper, `marks` says so, and the other counts are 0.

@@ -114,11 +114,11 @@ static void finish(struct set *s, int width) {
         reduce(s, bracket);
 }
 
-/* The marks' rule: the highest row that shows the interval. */
+/* The marks' rule: the lowest row that shows the interval. */
 static int mark_row(const struct area *a, struct interval of) {
-    int row = a->height - 1;
+    int row = 0;
     while (!shows(a, row, of))
-        row--;
+        row++;
     return row;
 }
 

@@ -19,16 +19,11 @@ static inline word bit(int at) { return (word)1 << at; }
 static inline word up_to(int at) { return ~(word)0 >> (63 - at); }
 static inline word from(int at) { return ~(word)0 << at; }
 
-/* The marks' rule: a mark stands on the highest row that shows its interval. Rows are gone through from that end. */
-static inline int row_at(int step, int height) { return height - 1 - step; }
-#define BOTTOM left
-#define TOP entered
-
-/* An area: a word for each row; the columns with copper, and the row in which each one's is entered and left by row_at. */
+/* An area: a word for each row; the columns with copper, and the bottom and top row of each one's. */
 struct area {
     int width, height;
     word row[SIDE], columns;
-    uint8_t entered[SIDE], left[SIDE];
+    uint8_t bottom[SIDE], top[SIDE];
 };
 
 /* For each first column the last columns of its intervals, and for each last column the first columns. */
@@ -103,24 +98,23 @@ static struct keekaboor_outcome broken_column(const struct area *a) {
 }
 
 /*
- * The starting set, the row of each of its intervals (the first that shows it), and where each column's copper begins and
- * ends. Only runs beside a square that has changed since the row before are new. How many intervals, or -1 where a column
- * is broken.
+ * The starting set, the mark's row of each of its intervals (the lowest that shows it: rows are gone through upward), and
+ * where each column's copper begins and ends. Only runs beside a square that has changed since the row before are new. How
+ * many intervals, or -1 where a column is broken.
  */
 static int start(struct area *a, struct set *s, uint8_t shown[SIDE][SIDE]) {
     word before = 0, seen = 0;
     int count = 0;
-    for (int step = 0; step < a->height; step++) {
-        const int y = row_at(step, a->height);
+    for (int y = 0; y < a->height; y++) {
         const word now = a->row[y], change = now ^ before;
         if (change == 0)
             continue;
         if (now & seen & ~before)
             return -1;
         for (word w = now & ~before; w; w &= w - 1)
-            a->entered[lowest(w)] = (uint8_t)y;
+            a->bottom[lowest(w)] = (uint8_t)y;
         for (word w = before & ~now; w; w &= w - 1)
-            a->left[lowest(w)] = (uint8_t)row_at(step - 1, a->height);
+            a->top[lowest(w)] = (uint8_t)(y - 1);
         for (word touched = (change | change << 1 | change >> 1) & now; touched;) {
             const int c = lowest(touched);
             const word below = ~now & (bit(c) - 1), above = ~now & from(c);
@@ -137,7 +131,7 @@ static int start(struct area *a, struct set *s, uint8_t shown[SIDE][SIDE]) {
         before = now;
     }
     for (word w = before; w; w &= w - 1)
-        a->left[lowest(w)] = (uint8_t)row_at(a->height - 1, a->height);
+        a->top[lowest(w)] = (uint8_t)(a->height - 1);
     a->columns = seen;
     return count;
 }
@@ -266,7 +260,7 @@ static uint64_t put_marks(word marked, const uint8_t row[SIDE], uint64_t most, u
 static uint64_t copper_number(const struct area *a) {
     uint64_t count = 0;
     for (word w = a->columns; w; w &= w - 1)
-        count += (uint64_t)(a->TOP[lowest(w)] - a->BOTTOM[lowest(w)] + 1);
+        count += (uint64_t)(a->top[lowest(w)] - a->bottom[lowest(w)] + 1);
     return count;
 }
 
@@ -278,8 +272,8 @@ static uint64_t put_flashes(const struct area *a, const struct set *final, uint8
         for (word w = final->last[first]; w; w &= w - 1, room += 4) {
             const int last = lowest(w);
             for (; c <= last; c++) {
-                bottom = a->BOTTOM[c] > bottom ? a->BOTTOM[c] : bottom;
-                top = a->TOP[c] < top ? a->TOP[c] : top;
+                bottom = a->bottom[c] > bottom ? a->bottom[c] : bottom;
+                top = a->top[c] < top ? a->top[c] : top;
             }
             const uint8_t record[4] = {(uint8_t)first, (uint8_t)last, (uint8_t)bottom, (uint8_t)top};
             memcpy(room, record, sizeof record);

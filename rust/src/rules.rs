@@ -135,9 +135,9 @@ pub fn flashes(area: &Area) -> Vec<Flash> {
     list
 }
 
-/// The highest row with a slice of the interval.
+/// Marks use the lowest row that shows the interval.
 fn mark_row(area: &Area, of: Interval) -> usize {
-    (0..area.height).rev().find(|&row| slices(area, row).contains(&of)).expect("some row shows an interval of S")
+    (0..area.height).find(|&row| slices(area, row).contains(&of)).expect("some row shows an interval of S")
 }
 
 /// Column and row of each mark, listed by column.

@@ -48,6 +48,18 @@ pub fn copper(area: &Area) -> impl Iterator<Item = (usize, usize)> + '_ {
     area.squares().filter(|&(column, row)| area.copper(column, row))
 }
 
+/// The longest run of copper in its row that holds a copper square: its first and last column.
+pub fn slice_at(area: &Area, (column, row): (usize, usize)) -> (usize, usize) {
+    let first = (0..=column).rev().take_while(|&c| area.copper(c, row)).last();
+    let last = (column..area.width).take_while(|&c| area.copper(c, row)).last();
+    (first.expect("copper"), last.expect("copper"))
+}
+
+/// Whether a row has this slice.
+pub fn shows(area: &Area, row: usize, slice: (usize, usize)) -> bool {
+    area.copper(slice.0, row) && slice_at(area, (slice.0, row)) == slice
+}
+
 /// The sum of the rectangles' areas.
 pub fn flashed(list: &[Rectangle]) -> u64 {
     list.iter().map(|rectangle| rectangle.area() as u64).sum()

@@ -71,6 +71,14 @@ fn document_01s_rows() {
     }
 }
 
+#[test]
+fn marks_stand_on_the_lowest_row() {
+    common::marks_stand_on_the_lowest_row(13, |area| {
+        let (_, _, marks) = Call::of(area, 64).make();
+        marks.chunks(2).map(|mark| (mark[0] as usize, mark[1] as usize)).collect()
+    });
+}
+
 /// A full area of any size, also one out of range.
 fn full(width: u64, height: u64) -> Call {
     Call { numbers: (width, height, 64), raster: vec![1; (width * height) as usize], flash_room: 256, mark_room: 128 }

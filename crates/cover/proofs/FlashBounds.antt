@@ -18,7 +18,7 @@ use Rattle.method.specs.Intervals.{Interval}
 use Rattle.grid.specs.Limits.{side}
 use Rattle.grid.specs.Squares.{Area, Rectangle}
 use Rattle.cover.specs.Slices.{copperAlong, markRow}
-use Rattle.cover.proofs.Shown.{highest-shows}
+use Rattle.cover.proofs.Shown.{lowest-shows}
 use Rattle.cover.specs.Flashes.{flash, rowFound, areaOfFlash, flashedArea}
 use Rattle.cover.specs.Code.{Drawn}
 
@@ -51,7 +51,7 @@ pub mark-low : (a : Area) (h : ℕ) (i : Interval) → 1 ≤ h → rowFound (mar
 mark-low a h i l =
     ocase (markRow a h i)
     (λ o. let e = ap rowFound o in omega arith)
-    (λ y o. let e = ap rowFound o in omega (arith, highest-shows a h i o))
+    (λ y o. let e = ap rowFound o in omega (arith, lowest-shows a h i o))
 
 pub flash-drawn : (a : Area) (h : ℕ) (i : Interval) → (i .left < i .right) × (i .right ≤ side) → (1 ≤ h) × (h ≤ side) → Drawn (flash a h i)
 unfolding flash

@@ -10,7 +10,7 @@ use Rattle.grid.specs.Answers.{orElse, firstRefusal}
 use Rattle.grid.specs.Rooms.{written}
 use Rattle.grid.specs.Squares.{gridSquares, copperNumber}
 use Rattle.grid.specs.Raster.{firstBad, gap, brokenFrom}
-use Rattle.cover.specs.Slices.{endsLeft, endsRight, copperAlong, slice, shown, highestShown, starting}
+use Rattle.cover.specs.Slices.{endsLeft, endsRight, copperAlong, slice, shown, lowestShown, starting}
 use Rattle.cover.specs.Flashes.{flash, flashes, flashedArea}
 use Rattle.cover.specs.Marks.{mark, byColumn, marks}
 use Rattle.cover.specs.Cover.{Given, orWork, coverGives}
@@ -21,5 +21,5 @@ given c = coverGives (c .width) (c .height) (c .allowance) (bytes c) flashesLent
 
 pub rows-hold : map given table ≡ map expected table
 unfolding gridSquares copperNumber coveredInside dependent minimal outermost meets reduce leftmost reduced final heldOnce strike least found marked firstBad gap
-    brokenFrom endsLeft endsRight copperAlong slice shown highestShown starting flash flashes flashedArea mark byColumn marks written orElse firstRefusal orWork coverGives
+    brokenFrom endsLeft endsRight copperAlong slice shown lowestShown starting flash flashes flashedArea mark byColumn marks written orElse firstRefusal orWork coverGives
 rows-hold = refl

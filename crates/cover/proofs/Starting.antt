@@ -14,7 +14,7 @@ use Rattle.method.proofs.Lines.{lines-proper, lines-hold}
 use Rattle.method.proofs.Listed.{member-select, select-listed}
 use Rattle.grid.specs.Squares.{Area, InGrid}
 use Rattle.cover.specs.Slices.{copperAlong, slice, shown, starting, markRow}
-use Rattle.cover.proofs.Shown.{shown-by, shown-row, highest-shows, shown-highest}
+use Rattle.cover.proofs.Shown.{shown-by, shown-row, lowest-shows, shown-lowest}
 use Rattle.cover.proofs.SliceLaws.{part-along, slice-lines, slice-along, slice-copper, slice-of}
 
 module _ (a : Area) (w h : ℕ) where
@@ -45,8 +45,8 @@ module _ (a : Area) (w h : ℕ) where
   pub mark-row-shows : (i : Interval) → member i (starting a w h) ≡ true → (y : ℕ) × (markRow a h i ≡ some y) × (y < h) × (slice a y i ≡ true)
   mark-row-shows i t =
       let r = starting-shown i t in
-      let y = shown-highest a h i (shown-by a h i (r .0) (r .1) (r .2)) in
-      let s = highest-shows a h i (y .1) in
+      let y = shown-lowest a h i (shown-by a h i (r .0) (r .1) (r .2)) in
+      let s = lowest-shows a h i (y .1) in
       (y .0, y .1, s .0, s .1)
 
   module _ (grid : InGrid w h a) where

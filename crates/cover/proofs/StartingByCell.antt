@@ -21,9 +21,9 @@ use Rattle.grid.specs.Limits.{side}
 use Rattle.grid.specs.Squares.{Area}
 use Rattle.intervals.specs.Table.{cellOf, spanAt, cellsTo, setOf, tableOf, Tabled, changed, with}
 use Rattle.intervals.proofs.TableLaws.{span-cell, cell-span, cell-before, set-table, tabled}
-use Rattle.cover.specs.Slices.{shown, starting, highestShown}
+use Rattle.cover.specs.Slices.{shown, starting, lowestShown}
 use Rattle.cover.specs.Code.{startedTo}
-use Rattle.cover.proofs.Shown.{shown-by, highest-shows, highest-none}
+use Rattle.cover.proofs.Shown.{shown-by, lowest-shows, lowest-none}
 use Rattle.cover.proofs.Starting.{starting-listed}
 
 -- one number more is passed, and only that one
@@ -86,14 +86,14 @@ module _ (a : Area) (w h : ℕ) where
       pub started-tabled : Tabled n t
       started-tabled = rw (e, q) (tabled w (startedTo a w h k) fits (started-listed k))
 
-      pub put-started : {i : Interval} {y : ℕ} → i ≡ spanAt k → highestShown a h i ≡ some y → tableOf (with n i (setOf n t)) ≡ tableOf (startedTo a w h (k + 1))
+      pub put-started : {i : Interval} {y : ℕ} → i ≡ spanAt k → lowestShown a h i ≡ some y → tableOf (with n i (setOf n t)) ≡ tableOf (startedTo a w h (k + 1))
       put-started {i} f r =
           (λ z. tableOf (with (e z) (f z) (setOf (e z) (q z))))
           ∙ ap (λ s. tableOf (with w (spanAt k) s)) (set-table w (startedTo a w h k) fits (started-listed k))
-          ∙ ap tableOf (started-put k (ap (shown a h) (sym f) ∙ (let y = highest-shows a h i r in shown-by a h i _ (y .0) (y .1))))
+          ∙ ap tableOf (started-put k (ap (shown a h) (sym f) ∙ (let y = lowest-shows a h i r in shown-by a h i _ (y .0) (y .1))))
 
-      pub skip-started : {i : Interval} → i ≡ spanAt k → highestShown a h i ≡ none → t ≡ tableOf (startedTo a w h (k + 1))
-      skip-started {i} f r = q ∙ ap tableOf (started-skip k (λ j u v g. ap (shown a h) (g ∙ sym f) ∙ highest-none a h i r))
+      pub skip-started : {i : Interval} → i ≡ spanAt k → lowestShown a h i ≡ none → t ≡ tableOf (startedTo a w h (k + 1))
+      skip-started {i} f r = q ∙ ap tableOf (started-skip k (λ j u v g. ap (shown a h) (g ∙ sym f) ∙ lowest-none a h i r))
 
       -- what is no interval over the lines is in no set
       pub outside-started : {i : Interval} → i ≡ spanAt k → (proper i && inside (span 0 n) i) ≡ false → t ≡ tableOf (startedTo a w h (k + 1))

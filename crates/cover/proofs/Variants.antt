@@ -6,7 +6,7 @@ use Prim.Native.Nat.{ℕ, _-_, _<_}
 use native.Mathlib.Omega.{arith}
 use borrow.Author.Tests.{lt-ltb}
 use Rattle.method.specs.Intervals.{Interval as Span}
-use Rattle.grid.specs.Lines.{column, row, spanOf, intervalOf, columnsOf}
+use Rattle.grid.specs.Lines.{column, spanOf, intervalOf, columnsOf}
 use Rattle.grid.specs.declared.lines.Column.{Column}
 use Rattle.grid.specs.declared.lines.Interval.{Interval}
 use Rattle.grid.specs.declared.lines.Columns.{Columns}
@@ -14,13 +14,9 @@ use Rattle.grid.specs.declared.lines.Columns.the-variants.{None, Run}
 use Rattle.intervals.specs.Table.{foundOf}
 use Rattle.intervals.specs.declared.Found.{Found}
 use Rattle.intervals.specs.declared.Found.the-variants.{Nothing, At}
-use Rattle.cover.specs.Flashes.{rowFound}
-use Rattle.cover.specs.Code.{seenOf, onceOf}
+use Rattle.cover.specs.Code.{onceOf}
 use Rattle.cover.specs.declared.marks.Once.{Once}
 use Rattle.cover.specs.declared.marks.Once.the-variants.{Nowhere as NotOnce, In as Only}
-use Rattle.cover.specs.declared.slices.Shown.{Shown}
-use Rattle.cover.specs.declared.slices.Seen.{Seen}
-use Rattle.cover.specs.declared.slices.Seen.the-variants.{Never, In}
 
 -- the columns of an interval are its own
 pub run-told : (i : Interval) {r : Columns} {f l : Column} → i .left .0 < i .right .0 → r ≡ columnsOf i → r ≡ Run f l
@@ -34,23 +30,6 @@ none-told i {r} h e k =
     let m : r ≡ Run (column (i .left .0)) (column (i .right .0 - 1)) = e ∙ rw (lt-ltb (i .left .0) (i .right .0) h) in
     let z : _≡_ {A = ℕ} 0 1 = cc in
     omega arith
-
--- a row that was seen is the row that was looked for
-pub in-told : (o : Option ℕ) {r : Seen} {s : Shown} → r ≡ seenOf o → r ≡ In s → s .highest ≡ row (rowFound o)
-in-told none e k = let z : _≡_ {A = ℕ} 0 1 = cc in absurd (omega arith)
-in-told (some y) {s} e k = let m : s ≡ record { highest = row y } = cc in ap (λ (x : Shown). x .highest) m
-
-pub never-told : (o : Option ℕ) {r : Seen} → r ≡ seenOf o → r ≡ Never → row 0 ≡ row (rowFound o)
-never-told none e k = refl
-never-told (some y) e k = let z : _≡_ {A = ℕ} 0 1 = cc in absurd (omega arith)
-
-pub in-some : (o : Option ℕ) {r : Seen} {s : Shown} → r ≡ seenOf o → r ≡ In s → (y : ℕ) × (o ≡ some y)
-in-some none e k = let z : _≡_ {A = ℕ} 0 1 = cc in absurd (omega arith)
-in-some (some y) e k = (y, refl)
-
-pub never-none : (o : Option ℕ) {r : Seen} → r ≡ seenOf o → r ≡ Never → o ≡ none
-never-none none e k = refl
-never-none (some y) e k = let z : _≡_ {A = ℕ} 0 1 = cc in absurd (omega arith)
 
 -- a column, or an interval, that was found
 pub once-told : (o : Option ℕ) {r : Once} {c : Column} → r ≡ onceOf o → r ≡ Only c → o ≡ some (c .0)

@@ -31,10 +31,11 @@ use Rattle.cover.specs.declared.marks.Once.the-variants.{Nowhere as NotO
 use Rattle.cover.specs.declared.flashes.Flash.{Flash}
 use Rattle.cover.specs.declared.flashes.Flashed.{Flashed}
 
--- a row that shows an interval, if one does
-abbrev pub seenOf : Option ℕ → Seen
-seenOf none = Never
-seenOf (some y) = In (record { highest = row y })
+-- the lowest and the highest row that show an interval, if rows do
+abbrev pub seenOf : Option ℕ → Option ℕ → Seen
+seenOf none highest = Never
+seenOf (some l) none = Never
+seenOf (some l) (some h) = In (record { lowest = row l; highest = row h })
 
 -- a column that was found, if one was
 abbrev pub onceOf : Option ℕ → Once

@@ -98,7 +98,7 @@ table =
       x = 0;
       y = 0;
       flashes = q 0 2 1 1 ∷ q 1 1 0 2 ∷ [];
-      marks = s 0 1 ∷ s 1 2 ∷ [];
+      marks = s 0 1 ∷ s 1 0 ∷ [];
       copper = 5;
       flashed = 6;
     }
@@ -158,7 +158,7 @@ table =
       x = 0;
       y = 0;
       flashes = q 0 0 0 2 ∷ q 0 2 0 0 ∷ q 2 2 0 2 ∷ [];
-      marks = s 0 2 ∷ s 1 0 ∷ s 2 2 ∷ [];
+      marks = s 0 1 ∷ s 1 0 ∷ s 2 1 ∷ [];
       copper = 7;
       flashed = 9;
     }
@@ -203,7 +203,7 @@ table =
       x = 0;
       y = 0;
       flashes = [];
-      marks = s 0 2 ∷ s 1 0 ∷ [];
+      marks = s 0 1 ∷ s 1 0 ∷ [];
       copper = 0;
       flashed = 0;
     }

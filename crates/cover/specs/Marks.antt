@@ -8,7 +8,7 @@ use Rattle.grid.specs.Squares.{Area, Square}
 use Rattle.cover.specs.Slices.{starting, markRow}
 use Rattle.cover.specs.Flashes.{rowFound}
 
--- "Mark the square in that column and in the highest row with a slice of that interval."
+-- "Mark the square in that column and in the" lowest "row with a slice of that interval." (02, R-3)
 unfoldable pub mark : Area → ℕ → Marked → Square
 mark a h m = record { column = m .column; row = rowFound (markRow a h (m .interval)) }
 

@@ -38,6 +38,6 @@ highestShown a h i = first (λ y. slice a y i) (down h)
 unfoldable pub starting : Area → ℕ → ℕ → List Interval
 starting a w h = select w (shown a h)
 
--- "the highest row with a slice of that interval"
+-- "marks use the lowest" (02, R-3)
 abbrev pub markRow : Area → ℕ → Interval → Option ℕ
-markRow = highestShown
+markRow = lowestShown

@@ -78,6 +78,7 @@ fn flash_of(size: Size, raster: &[u8], i: Interval) -> Flash
             bottom,
             top,
         },
+        // Never met: what is asked for is an interval.
         Columns::None => Flash {
             first: Column(0),
             last: Column(0),

@@ -66,7 +66,8 @@ fn mark_row(size: Size, raster: &[u8], i: Interval) -> Row
     ensures { λ r. ⌜ r ≡ row (rowFound (markRow (areaIn size (now (raster .entry))) (size .height) (spanOf i))) ⌝ }
 {
     match find(size, raster, i) {
-        Seen::In(shown) => shown.highest,
+        Seen::In(shown) => shown.lowest,
+        // Never met by a mark: its interval is in the starting set, so some row shows it.
         Seen::Never => Row(0),
     }
 }
@@ -81,6 +82,7 @@ fn note_mark(size: Size, raster: &[u8], set: &mut Table, work: &mut Table, rows:
     let Once::In(column) = next_column(set, work, last) else {
         return false;
     };
+    // Always found: a column that the final set holds is held by the set.
     let Found::At(i) = least(set, last, column) else {
         return false;
     };

@@ -3,15 +3,16 @@ ghost use mathlib.Core.Path.{_≡_};
 ghost use mathlib.Core.List.{[]};
 ghost use Prim.Native.Nat.{_+_};
 ghost use Rattle.grid.specs.Lines.{line, spanOf};
-ghost use Rattle.grid.specs.Code.{Sized, areaIn};
+ghost use Rattle.grid.specs.Code.{Sized, areaIn, levelOf};
 ghost use Rattle.intervals.specs.Table.{tableOf};
 ghost use Rattle.cover.specs.Slices;
-ghost use Rattle.cover.specs.Slices.{copperAlong, endsLeft, endsRight, slice, highestShown};
+ghost use Rattle.cover.specs.Slices.{copperAlong, endsLeft, endsRight, slice, lowestShown, highestShown};
 ghost use Rattle.cover.specs.Code.{seenOf, startedTo};
 use grid::lines::Column;
 use grid::lines::Interval;
 use grid::lines::Line;
 use grid::lines::Row;
+use grid::raster::Level;
 use grid::raster::Size;
 use grid::raster::is_copper;
 use intervals::Table;
@@ -19,6 +20,7 @@ use intervals::table;
 
 // The rows that show an interval.
 pub struct Shown {
+    pub lowest: Row,
     pub highest: Row,
 }
 
@@ -82,19 +84,47 @@ fn is_slice(size: Size, raster: &[u8], row: Row, i: Interval) -> bool
     copper_along(size, raster, row, i)
 }
 
-// The rows that show the interval as a slice.
-pub fn find(size: Size, raster: &[u8], i: Interval) -> Seen
+// The lowest row that shows the interval as a slice.
+fn lowest_shown(size: Size, raster: &[u8], i: Interval) -> Level
     requires { ⌜ Sized size (now raster) ⌝ }
-    ensures { λ r. ⌜ r ≡ seenOf (highestShown (areaIn size (now (raster .entry))) (size .height) (spanOf i)) ⌝ }
+    ensures { λ r. ⌜ r ≡ levelOf (lowestShown (areaIn size (now (raster .entry))) (size .height) (spanOf i)) ⌝ }
+{
+    let h = size.height;
+    for y in 0..h {
+        if is_slice(size, raster, Row(y), i) {
+            return Level::In(Row(y));
+        }
+    }
+    Level::None
+}
+
+// The highest such row.
+fn highest_shown(size: Size, raster: &[u8], i: Interval) -> Level
+    requires { ⌜ Sized size (now raster) ⌝ }
+    ensures { λ r. ⌜ r ≡ levelOf (highestShown (areaIn size (now (raster .entry))) (size .height) (spanOf i)) ⌝ }
 {
     let mut left = size.height;
     while 0 < left {
         left -= 1;
         if is_slice(size, raster, Row(left), i) {
-            return Seen::In(Shown { highest: Row(left) });
+            return Level::In(Row(left));
         }
     }
-    Seen::Never
+    Level::None
+}
+
+// The rows that show the interval as a slice; those between the lowest and the highest need not.
+pub fn find(size: Size, raster: &[u8], i: Interval) -> Seen
+    requires { ⌜ Sized size (now raster) ⌝ }
+    ensures { λ r. ⌜ r ≡ seenOf (lowestShown (areaIn size (now (raster .entry))) (size .height) (spanOf i)) (highestShown (areaIn size (now (raster .entry))) (size .height) (spanOf i)) ⌝ }
+{
+    let Level::In(lowest) = lowest_shown(size, raster, i) else {
+        return Seen::Never;
+    };
+    let Level::In(highest) = highest_shown(size, raster, i) else {
+        return Seen::Never;
+    };
+    Seen::In(Shown { lowest, highest })
 }
 
 // The interval of cell k, where it is one over the job's lines and some row shows it.

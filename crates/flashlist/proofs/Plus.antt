@@ -16,7 +16,7 @@ use Rattle.text.specs.Decimal.{digits, decimal, run, value}
 use Rattle.text.specs.Line.{line, recordLines, numbersFrom, lineAt}
 use Rattle.job.specs.JobText.{rowHead, rowLine, rowsLength, textLength}
 use Rattle.job.specs.Reading.{shapeAt, rowAt, rowsFrom, rasterFrom, judged}
-use Rattle.cover.specs.Slices.{endsLeft, endsRight, copperAlong, slice, shown, highestShown, starting}
+use Rattle.cover.specs.Slices.{endsLeft, endsRight, copperAlong, slice, shown, lowestShown, starting}
 use Rattle.cover.specs.Flashes.{flash, flashes, flashedArea}
 use Rattle.cover.specs.Marks.{mark, byColumn, marks}
 use Rattle.cover.specs.Cover.{orWork, coverGives}
@@ -35,6 +35,6 @@ plusText =
 pub plus-prints : programText plusText ≡ fiveLines
 unfolding gridSquares copperNumber programText judged shapeAt lineAt numbersFrom line recordLines rowsFrom rowAt rasterFrom rowLine rowHead rowsLength textLength digits decimal run value begins
     coveredInside dependent minimal outermost meets reduce leftmost reduced final heldOnce strike least found marked firstBad gap brokenFrom
-    endsLeft endsRight copperAlong slice shown highestShown starting flash flashes flashedArea mark byColumn marks written orElse firstRefusal orWork coverGives
+    endsLeft endsRight copperAlong slice shown lowestShown starting flash flashes flashedArea mark byColumn marks written orElse firstRefusal orWork coverGives
     printed
 plus-prints = refl

@@ -12,24 +12,24 @@ use Rattle.printed.specs.Printed.{printed}
 abbrev outcome : ℕ → ℕ → ℕ → ℕ → ℕ → ℕ → ℕ → Outcome
 outcome n x y f m k a = record { answer = n; «place_x» = x; «place_y» = y; flashes = f; marks = m; copper = k; flashed = a }
 
--- "cover 2 5 6", "flash 0 2 1 1", "flash 1 1 0 2", "mark 0 1", "mark 1 2", with a tab for each space
+-- "cover 2 5 6", "flash 0 2 1 1", "flash 1 1 0 2", "mark 0 1", "mark 1 0", with a tab for each space
 abbrev pub fiveLines : List ℕ
 fiveLines =
     (99 ∷ 111 ∷ 118 ∷ 101 ∷ 114 ∷ 9 ∷ 50 ∷ 9 ∷ 53 ∷ 9 ∷ 54 ∷ 10 ∷ [])
     ++ (102 ∷ 108 ∷ 97 ∷ 115 ∷ 104 ∷ 9 ∷ 48 ∷ 9 ∷ 50 ∷ 9 ∷ 49 ∷ 9 ∷ 49 ∷ 10 ∷ [])
     ++ (102 ∷ 108 ∷ 97 ∷ 115 ∷ 104 ∷ 9 ∷ 49 ∷ 9 ∷ 49 ∷ 9 ∷ 48 ∷ 9 ∷ 50 ∷ 10 ∷ [])
     ++ (109 ∷ 97 ∷ 114 ∷ 107 ∷ 9 ∷ 48 ∷ 9 ∷ 49 ∷ 10 ∷ [])
-    ++ (109 ∷ 97 ∷ 114 ∷ 107 ∷ 9 ∷ 49 ∷ 9 ∷ 50 ∷ 10 ∷ [])
+    ++ (109 ∷ 97 ∷ 114 ∷ 107 ∷ 9 ∷ 49 ∷ 9 ∷ 48 ∷ 10 ∷ [])
 
 -- the rooms hold sevens past their records, which no line shows
-pub plus-printed : printed (outcome 0 0 0 2 2 5 6) (0 ∷ 2 ∷ 1 ∷ 1 ∷ 1 ∷ 1 ∷ 0 ∷ 2 ∷ 7 ∷ 7 ∷ 7 ∷ 7 ∷ []) (0 ∷ 1 ∷ 1 ∷ 2 ∷ 7 ∷ 7 ∷ []) ≡ fiveLines
+pub plus-printed : printed (outcome 0 0 0 2 2 5 6) (0 ∷ 2 ∷ 1 ∷ 1 ∷ 1 ∷ 1 ∷ 0 ∷ 2 ∷ 7 ∷ 7 ∷ 7 ∷ 7 ∷ []) (0 ∷ 1 ∷ 1 ∷ 0 ∷ 7 ∷ 7 ∷ []) ≡ fiveLines
 unfolding printed line recordLines decimal digits
 plus-printed = refl
 
--- "refused 9 0 0", "mark 0 2", "mark 1 0"
-pub short-printed : printed (outcome 9 0 0 0 2 0 0) (7 ∷ 7 ∷ 7 ∷ 7 ∷ []) (0 ∷ 2 ∷ 1 ∷ 0 ∷ 7 ∷ 7 ∷ [])
+-- "refused 9 0 0", "mark 0 1", "mark 1 0"
+pub short-printed : printed (outcome 9 0 0 0 2 0 0) (7 ∷ 7 ∷ 7 ∷ 7 ∷ []) (0 ∷ 1 ∷ 1 ∷ 0 ∷ 7 ∷ 7 ∷ [])
     ≡ (114 ∷ 101 ∷ 102 ∷ 117 ∷ 115 ∷ 101 ∷ 100 ∷ 9 ∷ 57 ∷ 9 ∷ 48 ∷ 9 ∷ 48 ∷ 10 ∷ [])
-    ++ (109 ∷ 97 ∷ 114 ∷ 107 ∷ 9 ∷ 48 ∷ 9 ∷ 50 ∷ 10 ∷ [])
+    ++ (109 ∷ 97 ∷ 114 ∷ 107 ∷ 9 ∷ 48 ∷ 9 ∷ 49 ∷ 10 ∷ [])
     ++ (109 ∷ 97 ∷ 114 ∷ 107 ∷ 9 ∷ 49 ∷ 9 ∷ 48 ∷ 10 ∷ [])
 unfolding printed line recordLines decimal digits
 short-printed = refl

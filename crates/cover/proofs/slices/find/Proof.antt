@@ -1,56 +1,53 @@
--- `find` meets its contract. The loop's invariant: the highest row that shows the interval is the highest below `left`.
-use mathlib.Core.Path.{_≡_, sym, ap, _∙_}
-use mathlib.Core.Bool.{Bool}
-use mathlib.Core.List.{List}
-use Prim.Native.Nat.{ℕ}
-use native.Mathlib.Omega.{arith}
+-- `find` meets its contract: the two searches, one after the other.
+use mathlib.Core.Path.{_≡_, sym, ap}
+use mathlib.Core.Option.{Option, some}
 use borrow.Author.Needs.{needs}
+use Prim.Native.Nat.{ℕ}
 use Rattle.grid.specs.Lines.{spanOf}
-use Rattle.grid.specs.declared.lines.Interval.{Interval}
-use Rattle.grid.specs.declared.raster.Size.{Size}
-use Rattle.cover.specs.Slices.{slice, highestShown}
 use Rattle.grid.specs.Code.{areaIn}
+use Rattle.grid.proofs.Next.{level-in, level-none}
+use Rattle.cover.specs.Slices.{lowestShown, highestShown}
 use Rattle.cover.specs.Code.{seenOf}
-use Rattle.lists.proofs.Passes.{downFrom, down-all, down-found, down-next, down-none}
 use Rattle.cover.proofs.slices.find.Statement.{statement}
 use Rattle.cover.proofs.slices.find.Tie as tie
 
-abbrev shows : Size → List ℕ → Interval → ℕ → Bool
-shows size raster i y = slice (areaIn size raster) y (spanOf i)
+-- the two rows that were looked for
+abbrev low : tie.After-shared-slice-known → Option ℕ
+low c = let g = c .before .args in lowestShown (areaIn (g .size) (g .raster .now)) (g .size .height) (spanOf (g .i))
 
-abbrev Inv-loop : tie.InvT-loop
-Inv-loop size raster i left₀ left = highestShown (areaIn size raster) (size .height) (spanOf i) ≡ downFrom (shows size raster i) left
+abbrev high : tie.After-shared-slice-known → Option ℕ
+high c = let g = c .before .args in highestShown (areaIn (g .size) (g .raster .now)) (g .size .height) (spanOf (g .i))
 
-abbrev μ-loop : tie.MeasureT-loop
-μ-loop size raster i left₀ left = left
+lowest : (c : tie.After-known-told) → low (c .before .before .before .before) ≡ some (c .before .lowest .given .0 .0 .0)
+lowest c = level-in (low (c .before .before .before .before)) (c .before .before .before .lowest-shown .ensures) (c .before .lowest .given .1)
 
-loop-holds : tie.Need-loop-holds Inv-loop μ-loop
-unfolding highestShown
-loop-holds c = down-all _ _
-
-returns : tie.Need-returns Inv-loop μ-loop
+returns : tie.Need-returns
 returns c =
-    let l = c .before .before .before in
-    sym (ap seenOf (l .loop .inv ∙ down-found _ _ (omega arith) (sym (c .before .is-slice .ensures) ∙ c .if1 .taken)))
+    let s = c .before .before .before in
+    sym (ap (λ o. seenOf o (high s)) (level-none (low s) (c .before .before .lowest-shown .ensures) (c .enum-told .given .1)))
 
-loop-again : tie.Need-loop-again Inv-loop μ-loop
-loop-again c =
+returns-2 : tie.Need-returns-2
+returns-2 c =
     let l = c .before .before .before in
-    l .loop .inv ∙ down-next _ _ (omega arith) (sym (c .before .is-slice .ensures) ∙ c .if1 .left)
+    let missed = level-none (high (l .before .before .before .before)) (c .before .before .highest-shown .ensures) (c .enum-told2 .given .1) in
+    sym (λ i. seenOf (lowest l i) (missed i))
 
-returns-2 : tie.Need-returns-2 Inv-loop μ-loop
-returns-2 c = sym (ap seenOf (c .before .loop .inv ∙ down-none _ _ (omega arith)))
+returns-3 : tie.Need-returns-3
+returns-3 c =
+    let l = c .before .before .before .before in
+    let found = level-in (high (l .before .before .before .before)) (c .before .before .before .highest-shown .ensures) (c .before .highest .given .1) in
+    sym (λ i. seenOf (lowest l i) (found i))
 
 pub find-spec : {M : Type 1} → statement M
 find-spec =
     tie.close
     (tie.spec
-    Inv-loop
-    μ-loop
-    loop-holds
-    (λ c. omega arith)
     (λ c κs. search needs)
+    (λ c. search needs)
+    (λ c. search needs)
     returns
-    (λ c. omega arith)
-    loop-again
-    returns-2)
+    (λ c κs. search needs)
+    (λ c. search needs)
+    (λ c. search needs)
+    returns-2
+    returns-3)

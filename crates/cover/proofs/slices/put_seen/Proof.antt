@@ -4,8 +4,7 @@ use borrow.Author.Needs.{needs}
 use borrow.Author.Tests.{not-true}
 use Rattle.grid.specs.Lines.{spanOf, containsOf}
 use Rattle.grid.proofs.Edges.{number}
-use Rattle.cover.specs.Slices.{highestShown}
-use Rattle.cover.proofs.Variants.{in-some, never-none}
+use Rattle.cover.proofs.Shown.{seen-lowest, never-shown}
 use Rattle.cover.proofs.StartingByCell.{started-tabled, put-started, skip-started, outside-started}
 use Rattle.cover.proofs.slices.put_seen.Statement.{statement}
 use Rattle.cover.proofs.slices.put_seen.Tie as tie
@@ -32,14 +31,14 @@ returns-2 c =
     let s = l .before .before .before in
     c .put .ensures
     ∙ put-started _ _ _ (s .pre .0 .narrow) (s .args .k) (ap number (l .last-line .ensures)) (s .pre .1) (ap spanOf (l .before .interval-at .ensures))
-    (in-some (highestShown _ _ _) (f .find .ensures) (m .enum-told .given .1) .1)
+    (seen-lowest _ _ _ (f .find .ensures) (m .enum-told .given .1))
 
 returns-3 : tie.Need-returns-3
 returns-3 c =
     let f = c .before .before in
     let l = f .before .before .before .before in
     let s = l .before .before .before in
-    skip-started _ _ _ (s .pre .0 .narrow) (s .args .k) refl (s .pre .1) (ap spanOf (l .before .interval-at .ensures)) (never-none (highestShown _ _ _) (f .find .ensures) (c .enum-told2 .given .1))
+    skip-started _ _ _ (s .pre .0 .narrow) (s .args .k) refl (s .pre .1) (ap spanOf (l .before .interval-at .ensures)) (never-shown _ _ _ (f .find .ensures) (c .enum-told2 .given .1))
 
 pub put-seen-spec : {M : Type 1} → statement M
 put-seen-spec =

@@ -55,7 +55,8 @@ enum {
     KEEKABOOR_FLASH_ROOM = 256,    /* bytes lent for flashes, at least: 64 records of four bytes */
     KEEKABOOR_MARK_ROOM = 128,     /* bytes lent for marks, at least: 64 records of two bytes */
     KEEKABOOR_RASTER_ROOM = 4096,  /* bytes lent for a raster that is read in, at least */
-    KEEKABOOR_TEXT_ROOM = 4613     /* bytes lent for a job written out, at least; also the longest text of a job */
+    KEEKABOOR_TEXT_ROOM = 4613,    /* bytes lent for a job written out, at least; also the longest text of a job */
+    KEEKABOOR_LIST_LIMIT = 1024    /* the most flashes of a list that is checked */
 };
 
 /* The answers, and the place that goes with each. A place not named is 0, 0. */
@@ -72,7 +73,9 @@ enum {
     KEEKABOOR_ALLOWANCE_SHORT = 9, /* the least number of flashes exceeds the allowance */
     KEEKABOOR_TEXT_LONG = 10,      /* the text has over 4,613 bytes */
     KEEKABOOR_TEXT_LINE = 11,      /* a line of text is not as ruled; place: its number, counted from 1, and 0 */
-    KEEKABOOR_RASTER_ROOM_SHORT = 12
+    KEEKABOOR_RASTER_ROOM_SHORT = 12,
+    KEEKABOOR_LIST_LINE = 16,      /* a line of a list is not as ruled; place: its number, counted from 1, and 0 */
+    KEEKABOOR_LIST_LONG = 17       /* a list has over 1,024 flashes */
 };
 
 /* What keekaboor_cover returns. */
@@ -136,6 +139,38 @@ struct keekaboor_write_outcome {
 struct keekaboor_write_outcome keekaboor_write_job(uint64_t width, uint64_t height, uint64_t allowance,
                                                    const uint8_t *raster, size_t raster_len,
                                                    uint8_t *text_room, size_t text_len);
+
+/* The verdicts on a list. A refusal has none of them: 0. */
+enum {
+    KEEKABOOR_SOUND = 1, /* every flash lies in the copper and every copper square lies in a flash */
+    KEEKABOOR_BAD = 2,   /* a flash is reversed, off the grid or not in the copper; place: the first one's line, and 0 */
+    KEEKABOOR_BARE = 3   /* a copper square lies in no flash; place: column and row of the first in raster order */
+};
+
+/* What keekaboor_check returns. */
+struct keekaboor_check_outcome {
+    uint64_t answer;
+    uint64_t place_x, place_y; /* of the refusal, or of the verdict */
+    uint64_t verdict;
+    uint64_t flashes; /* how many flashes the list has */
+    uint64_t above;   /* sound: how many of them are above the least number */
+    uint64_t marks;   /* sound: how many mark records were written */
+};
+
+/*
+ * Checks a list from outside against a job. A list is text: a line for each flash in any order, `flash`, first column,
+ * last column, bottom row, top row, each 0 to 9999, in the form of a job's text; at most 1,024 of them, and no line at
+ * all is a list too. A sound list has as many flashes as the least number and `above` more; mark_room then begins with
+ * our marks, as many as the least number, no two in one rectangle of copper. On bad and bare nothing is written. A bad
+ * flash is told before a bare square. The allowance has no effect, but it must be one.
+ *
+ * Refusals, the first that applies: 1, 2, 4, 6, 7, 8, 16, 17. A last line without line feed is 16, and so is a line past
+ * the 1,024th that is not as ruled.
+ */
+struct keekaboor_check_outcome keekaboor_check(uint64_t width, uint64_t height, uint64_t allowance,
+                                               const uint8_t *raster, size_t raster_len,
+                                               const uint8_t *list, size_t list_len,
+                                               uint8_t *mark_room, size_t mark_len);
 
 #ifdef __cplusplus
 }

@@ -14,7 +14,7 @@
 #include <time.h>
 #include <unistd.h>
 
-enum { READ_JOB, WRITE_JOB, COVERS };
+enum { READ_JOB, WRITE_JOB, CHECK, COVERS };
 
 /* How many fields the longest outcome has. */
 enum { NUMBERS = 7 };
@@ -70,6 +70,13 @@ static void call(const struct request *r, uint8_t *const buffer[3], uint64_t out
         struct keekaboor_write_outcome o =
             keekaboor_write_job(n[0], n[1], n[2], buffer[0], size[0], buffer[1], size[1]);
         uint64_t all[NUMBERS] = {o.answer, o.place_x, o.place_y, o.length};
+        memcpy(outcome, all, sizeof all);
+        break;
+    }
+    case CHECK: {
+        struct keekaboor_check_outcome o =
+            keekaboor_check(n[0], n[1], n[2], buffer[0], size[0], buffer[1], size[1], buffer[2], size[2]);
+        uint64_t all[NUMBERS] = {o.answer, o.place_x, o.place_y, o.verdict, o.flashes, o.above, o.marks};
         memcpy(outcome, all, sizeof all);
         break;
     }

@@ -38,12 +38,25 @@ pub struct WriteOutcome {
     pub length: u64,
 }
 
+/// What `keekaboor_check` returns.
+#[repr(C)]
+#[derive(Clone, Copy, Debug, Default, PartialEq, Eq)]
+pub struct CheckOutcome {
+    pub answer: u64,
+    pub place_x: u64,
+    pub place_y: u64,
+    pub verdict: u64,
+    pub flashes: u64,
+    pub above: u64,
+    pub marks: u64,
+}
+
 #[cfg(feature = "linked")]
 pub use linked::*;
 
 #[cfg(feature = "linked")]
 mod linked {
-    use super::{Outcome, ReadOutcome, WriteOutcome};
+    use super::{CheckOutcome, Outcome, ReadOutcome, WriteOutcome};
     use std::time::Duration;
 
     #[cfg(all(target_arch = "x86_64", not(feature = "far")))]
@@ -100,6 +113,21 @@ mod linked {
         reply.write_outcome()
     }
 
+    pub fn check(
+        (width, height, allowance): (u64, u64, u64),
+        raster: &[u8],
+        list: &[u8],
+        mark_room: &mut [u8],
+    ) -> CheckOutcome {
+        let mut lent = [Lent::new(raster), Lent::new(list), Lent::new(mark_room)];
+        let request = Request { function: Function::Check, numbers: [width, height, allowance], times: 1 };
+        let reply = call(&request, &mut lent);
+        lent[0].unchanged("the raster", raster);
+        lent[1].unchanged("the list", list);
+        lent[2].copy_back("the mark room", mark_room);
+        reply.check_outcome()
+    }
+
     /// How long so many calls of a cover take, one after the other, in the same rooms.
     pub fn time_cover(engine: Engine, times: u64, numbers: (u64, u64, u64), raster: &[u8]) -> Duration {
         let mut lent = [Lent::new(raster), Lent::new(&[0; 256]), Lent::new(&[0; 128])];
@@ -118,6 +146,7 @@ mod linked {
         Cover(Engine),
         ReadJob,
         WriteJob,
+        Check,
     }
 
     pub(super) struct Request {
@@ -149,6 +178,11 @@ mod linked {
         fn write_outcome(&self) -> WriteOutcome {
             let [answer, place_x, place_y, length, ..] = self.numbers;
             WriteOutcome { answer, place_x, place_y, length }
+        }
+
+        fn check_outcome(&self) -> CheckOutcome {
+            let [answer, place_x, place_y, verdict, flashes, above, marks] = self.numbers;
+            CheckOutcome { answer, place_x, place_y, verdict, flashes, above, marks }
         }
     }
 
@@ -196,7 +230,7 @@ mod linked {
 #[cfg(all(feature = "linked", target_arch = "x86_64", not(feature = "far")))]
 mod direct {
     use super::linked::{Engine, Function, Lent, Reply, Request, GUARD, NUMBERS};
-    use super::{Outcome, ReadOutcome, WriteOutcome};
+    use super::{CheckOutcome, Outcome, ReadOutcome, WriteOutcome};
     use crate::clock;
 
     macro_rules! covers {
@@ -231,6 +265,17 @@ mod direct {
             text_room: *mut u8,
             text_len: usize,
         ) -> WriteOutcome;
+        fn keekaboor_check(
+            width: u64,
+            height: u64,
+            allowance: u64,
+            raster: *const u8,
+            raster_len: usize,
+            list: *const u8,
+            list_len: usize,
+            mark_room: *mut u8,
+            mark_len: usize,
+        ) -> CheckOutcome;
     }
 
     pub(super) fn call(request: &Request, lent: &mut [Lent; 3]) -> Reply {
@@ -261,6 +306,10 @@ mod direct {
                         let o = keekaboor_write_job(x, y, z, a, len[0], b, len[1]);
                         [o.answer, o.place_x, o.place_y, o.length, 0, 0, 0]
                     }
+                    Function::Check => {
+                        let o = keekaboor_check(x, y, z, a, len[0], b, len[1], c, len[2]);
+                        [o.answer, o.place_x, o.place_y, o.verdict, o.flashes, o.above, o.marks]
+                    }
                 }
             };
         }
@@ -285,9 +334,10 @@ mod far {
         match function {
             Function::ReadJob => 0,
             Function::WriteJob => 1,
-            Function::Cover(Engine::Exported) => 2,
-            Function::Cover(Engine::Quick) => 3,
-            Function::Cover(Engine::Plain) => 4,
+            Function::Check => 2,
+            Function::Cover(Engine::Exported) => 3,
+            Function::Cover(Engine::Quick) => 4,
+            Function::Cover(Engine::Plain) => 5,
         }
     }
 

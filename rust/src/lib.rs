@@ -4,6 +4,8 @@
 pub mod areas;
 pub mod clock;
 pub mod ffi;
+pub mod listcheck;
+pub mod old;
 pub mod program;
 pub mod rules;
 pub mod search;

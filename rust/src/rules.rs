@@ -209,8 +209,8 @@ fn columns_checked(area: &Area) -> Result<(), Refusal> {
     Ok(())
 }
 
-/// Cover: 1, 2, 3, 4, 6, 7, 8, 9.
-fn checked(numbers: (u64, u64, u64), raster: &[u8], flash_room: usize, mark_room: usize) -> Result<Area, Refusal> {
+/// The checks of the cover before 9: 1, 2, 3, 4, 6, 7, 8.
+pub fn checked(numbers: (u64, u64, u64), raster: &[u8], flash_room: usize, mark_room: usize) -> Result<Area, Refusal> {
     let (width, height, allowance) = numbers;
     let area = sized(width, height, raster)?;
     if flash_room < FLASH_ROOM {

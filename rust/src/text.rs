@@ -77,6 +77,14 @@ fn row_line(line: &[u8], row: usize, width: usize) -> Option<Vec<u8>> {
     }
 }
 
+/// The four numbers of a flash line from outside.
+pub fn flash_line(line: &[u8]) -> Option<[u64; 4]> {
+    match fields(line)?[..] {
+        [b"flash", first, last, bottom, top] => Some([number(first)?, number(last)?, number(bottom)?, number(top)?]),
+        _ => None,
+    }
+}
+
 /// Reading a job: 12, 10, 11 for line 1, 1, 6, 11 for the rest in line order.
 pub fn read(text: &[u8], raster_room: usize) -> Result<Job, Refusal> {
     if raster_room < RASTER_ROOM {

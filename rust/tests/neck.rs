@@ -3,7 +3,8 @@
 //! Rule 6 takes them for the interval itself. Needs no static library.
 
 use keekaboor_tests::areas::Area;
-use keekaboor_tests::rules::{self, heights, Flash, Interval};
+use keekaboor_tests::old;
+use keekaboor_tests::rules::{self, Flash};
 use keekaboor_tests::search::{is_cover, Rectangle};
 use keekaboor_tests::text;
 
@@ -12,38 +13,6 @@ const PRINTED: &str = include_str!("../../examples/neck.out");
 
 fn neck() -> Area {
     text::read(JOB.as_bytes(), text::RASTER_ROOM).unwrap().area
-}
-
-/// A span, and the slice whose rows the old program would fetch for it.
-#[derive(Clone, Copy)]
-struct Span {
-    now: Interval,
-    before: Interval,
-}
-
-/// The old program: a meet stands where the left one of its pair stood, and keeps that one's rows.
-fn old_flashes(area: &Area) -> Vec<Flash> {
-    let mut spans: Vec<Span> = rules::starting_set(area).into_iter().map(|i| Span { now: i, before: i }).collect();
-    loop {
-        let set: Vec<Interval> = spans.iter().map(|span| span.now).collect();
-        let bracket = match rules::least_minimal(&set, area.width) {
-            Some(bracket) => bracket,
-            None => break,
-        };
-        let kept = rules::reduce(&set, bracket);
-        let dropped: Vec<Span> = spans.iter().copied().filter(|span| !kept.contains(&span.now)).collect();
-        spans.retain(|span| kept.contains(&span.now));
-        for pair in dropped.windows(2) {
-            let now = pair[0].now.meet(pair[1].now).unwrap();
-            spans.push(Span { now, before: pair[0].before });
-        }
-        spans.sort_by_key(|span| span.now);
-    }
-    let flash = |span: &Span| {
-        let (bottom, top) = heights(area, span.before);
-        [span.now.left, span.now.right - 1, bottom, top]
-    };
-    spans.iter().map(flash).collect()
 }
 
 fn covers(area: &Area, list: &[Flash]) -> bool {
@@ -61,7 +30,7 @@ fn the_example_prints_the_whole_neck() {
 #[test]
 fn rows_of_the_interval_before_the_merge_give_one_flash_two_rows_short() {
     let area = neck();
-    let (right, old) = (rules::flashes(&area), old_flashes(&area));
+    let (right, old) = (rules::flashes(&area), old::flashes(&area));
     assert_eq!(right.len(), old.len());
     let differing: Vec<_> = right.iter().zip(&old).filter(|(new, old)| new != old).collect();
     assert_eq!(differing.len(), 1, "{differing:?}");
@@ -74,5 +43,5 @@ fn rows_of_the_interval_before_the_merge_give_one_flash_two_rows_short() {
 #[test]
 fn where_nothing_merges_the_old_program_was_right() {
     let area = Area::of_rows(&["#..", "##.", "###"]);
-    assert_eq!(old_flashes(&area), rules::flashes(&area));
+    assert_eq!(old::flashes(&area), rules::flashes(&area));
 }

@@ -2,7 +2,7 @@
 from . import ruled
 
 # What the programs take at most, as the sentences and the help name it.
-SIDE, FLASH_ROOM, MARK_ROOM, RASTER_ROOM, LONGEST = 64, 256, 128, 4096, 4613
+SIDE, FLASH_ROOM, MARK_ROOM, RASTER_ROOM, LONGEST, LIST = 64, 256, 128, 4096, 4613, 1024
 
 # The answers by number; {x} and {y} are the place.
 ANSWERS = {
@@ -18,14 +18,21 @@ ANSWERS = {
     10: f"the text has over {LONGEST:,} bytes",
     11: "line {x} is not as ruled",
     12: f"the room for a raster is under {RASTER_ROOM:,} bytes",
+    16: "line {x} of the list is not as ruled",
+    17: f"the list has over {LIST:,} flashes",
 }
 
 # The answers that come with an area: they can be drawn.
 DRAWN = (0, 8, 9)
 
 
-def table():
-    words = {number: words.format(x="X", y="Y") for number, words in ANSWERS.items()}
+# The answers of a list from outside, which a cover is never given.
+OF_LISTS = (16, 17)
+
+
+def table(lists=False):
+    """The answers, those of lists only where they are asked for."""
+    words = {number: words.format(x="X", y="Y") for number, words in ANSWERS.items() if lists or number not in OF_LISTS}
     return "".join(f"  {number:>2}  {text}\n" for number, text in [(0, "done"), *words.items()])
 
 

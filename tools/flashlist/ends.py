@@ -1,6 +1,6 @@
 """How a call ends: the exit statuses, and what is raised to get there."""
 
-DONE, REFUSED, WRONG, FAILED, INTERRUPTED = 0, 1, 2, 3, 130
+DONE, REFUSED, WRONG, FAILED, UNSOUND, INTERRUPTED = 0, 1, 2, 3, 4, 130
 
 TEXT = """Exit status: 0 a cover, 1 a refusal (also explained on standard error), 2 a wrong call or a file that cannot be
 read, 3 the program or the system failed (one sentence says how), 130 interrupted. Of several files the highest

@@ -45,9 +45,13 @@ class Picture:
         squares = [(c, r) for c in range(first, last + 1) for r in range(bottom, top + 1)]
         return [(c, r) for c, r in squares if not any(f <= c <= l and b <= r <= t for f, l, b, t in others)] or squares
 
+    def label(self, index):
+        """What a flash is called in the picture."""
+        return str(index + 1)
+
     def flash_title(self, index):
         first, last, bottom, top = self.flashes[index]
-        return f"flash {index + 1}: {span('column', first, last)}, {span('row', bottom, top)}"
+        return f"flash {self.label(index)}: {span('column', first, last)}, {span('row', bottom, top)}"
 
     def mark_title(self, index):
         column, row = self.marks[index]

@@ -7,6 +7,9 @@ LINES = {
     "flash": ("first column", "last column", "bottom row", "top row"),
     "mark": ("column", "row"),
     "refused": ("answer", "x", "y"),
+    "sound": ("above the least",),
+    "bad": ("line",),
+    "bare": ("column", "row"),
 }
 
 HELP = """    cover    how many flashes; the copper number (how many squares are copper); the flashed area (the

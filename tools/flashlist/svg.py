@@ -130,7 +130,7 @@ class Sheet:
             size = 0.45 * self.cell if shared else max(0.4 * self.cell, 12)
             dx, base = (0.34 * self.cell, 0.48 * self.cell) if shared else (0.5 * self.cell, 0.5 * self.cell + 0.36 * size)
             yield (f'<text x="{self.x(column) + dx:.2f}" y="{self.y(row + 1) + base:.2f}" font-size="{size:.1f}" '
-                   f'fill="{self.colours[index]}">{index + 1}</text>')
+                   f'fill="{self.colours[index]}">{self.picture.label(index)}</text>')
         yield "</g>"
 
     def marks(self):

@@ -110,7 +110,7 @@ class Canvas:
     def label(self, index):
         """Writes a flash's number into copper that it alone holds, away from marks and near the middle; says where, if
         anywhere."""
-        text, own = str(index + 1), set(self.picture.own_squares(index))
+        text, own = self.picture.label(index), set(self.picture.own_squares(index))
         middle = [sum(square[i] for square in own) / len(own) for i in (0, 1)]
 
         def free(x, y):

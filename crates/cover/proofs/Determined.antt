@@ -13,6 +13,8 @@ use Rattle.cover.proofs.slices.starting
 use Rattle.cover.proofs.flashes.write_flashes
 use Rattle.cover.proofs.marks.note_marks
 use Rattle.cover.proofs.marks.write_marks
+use Rattle.cover.proofs.entry.sizes_checked
+use Rattle.cover.proofs.entry.raster_checked
 use Rattle.cover.proofs.entry.cover_area
 use Rattle.cover.proofs.entry.keekaboor_cover
 
@@ -46,6 +48,12 @@ pub write-marks-determined : Determined write_marks.Kinds.ps write_marks.Kinds.r
 write-marks-determined κs a pre x y v w p q =
     let m = p .room ∙ sym (q .room) in
     (p .counted ∙ sym (q .counted), λ i. (tt, (tt, (tt, (m i, tt)))))
+
+pub sizes-checked-determined : Determined sizes_checked.Kinds.ps sizes_checked.Kinds.r sizes_checked.Reads.Pre sizes_checked.Reads.Post
+sizes-checked-determined κs a pre x y v w p q = (p ∙ sym q, refl)
+
+pub raster-checked-determined : Determined raster_checked.Kinds.ps raster_checked.Kinds.r raster_checked.Reads.Pre raster_checked.Reads.Post
+raster-checked-determined κs a pre x y v w p q = (p ∙ sym q, refl)
 
 pub cover-area-determined : Determined cover_area.Kinds.ps cover_area.Kinds.r cover_area.Reads.Pre cover_area.Reads.Post
 cover-area-determined κs a pre x y v w p q =

@@ -84,7 +84,7 @@ fn covered(copper: usize, flashed: Flashed, marks: usize) -> Outcome
 }
 
 // The checks that need no look at the raster's bytes: 1, 2, 3, 4, 6.
-fn sizes_checked(
+pub fn sizes_checked(
     width: u64,
     height: u64,
     allowance: u64,
@@ -109,7 +109,7 @@ fn sizes_checked(
 }
 
 // The checks of the raster's bytes: 7, 8.
-fn raster_checked(size: Size, raster: &[u8]) -> Answer
+pub fn raster_checked(size: Size, raster: &[u8]) -> Answer
     requires { ⌜ Sized size (now raster) ⌝ }
     ensures { λ r. ⌜ r ≡ firstRefusal (rasterChecks (size .width) (size .height) (now (raster .entry))) ⌝ }
 {

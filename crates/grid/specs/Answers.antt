@@ -70,3 +70,9 @@ badLine = 11
 
 abbrev pub rasterRoomShort : ℕ
 rasterRoomShort = 12
+
+abbrev pub badListLine : ℕ
+badListLine = 16
+
+abbrev pub listLong : ℕ
+listLong = 17

@@ -29,3 +29,7 @@ markRoom = side * markRecord
 
 abbrev pub rasterRoom : ℕ
 rasterRoom = side * side
+
+-- "flash lists of his own .. at most 1,024" (02, R-5)
+abbrev pub listLimit : ℕ
+listLimit = 1024

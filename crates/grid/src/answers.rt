@@ -36,6 +36,10 @@ pub const BAD_LINE: u64 = 11;
 
 pub const RASTER_ROOM_SHORT: u64 = 12;
 
+pub const BAD_LIST_LINE: u64 = 16;
+
+pub const LIST_LONG: u64 = 17;
+
 impl Answer {
     pub fn done() -> Answer
         ensures { λ r. ⌜ r ≡ done ⌝ }

@@ -14,3 +14,5 @@ pub const FLASH_ROOM: usize = SIDE * FLASH_RECORD;
 pub const MARK_ROOM: usize = SIDE * MARK_RECORD;
 
 pub const RASTER_ROOM: usize = SIDE * SIDE;
+
+pub const LIST_LIMIT: usize = 1024;

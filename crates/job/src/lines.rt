@@ -19,7 +19,7 @@ use text::read::read_word;
 use text::write::digit_count;
 
 // A number in line 1 is at most this.
-const NUMBER_LIMIT: u64 = 9999;
+pub const NUMBER_LIMIT: u64 = 9999;
 
 // What line 1 says, and the spot past it.
 pub enum Shape {

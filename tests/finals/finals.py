@@ -1,9 +1,9 @@
 #!/usr/bin/env python3
-"""The sets that crate finals reads, and their final sets by document 01's rules as they stand: an implementation apart from the proved one.
+"""The sets that crate finals reads, and what merging them in three orders gives, by document 01's rules as they stand: an implementation apart from the proved one.
 
   finals.py stdin     what the program reads, crates/finals/stdin
   finals.py stdout    what it must write, crates/finals/stdout
-  finals.py check     compares both files with these; exit status 1 where one differs
+  finals.py check     compares both files with these, and the three orders with one another; exit status 1 where one differs
 """
 import os, sys
 
@@ -106,14 +106,29 @@ def dependent_at(s, right):
             found.append((left, right))
     return found
 
-def leftmost(last, s):
-    """Rules 3 and 5: the minimal bracket with the least right line, or None. Where one ends at this line, no dependent bracket ends before it."""
-    for right in range(1, last + 1):
-        brackets = dependent_at(s, right)
-        for d in brackets:
-            if not any(e != d and inside(d, e) for e in brackets):
-                return d
-    return None
+def brackets(last, s):
+    """Rule 2: every dependent bracket, by right line; of one right line the shortest first."""
+    return [d for right in range(1, last + 1) for d in dependent_at(s, right)]
+
+def minimal(d, dependent):
+    """Rule 3."""
+    return not any(e != d and inside(d, e) for e in dependent)
+
+def from_left(dependent, number):
+    """Rule 5: the minimal bracket with the least right line."""
+    return next(d for d in dependent if minimal(d, dependent))
+
+def from_right(dependent, number):
+    """The minimal bracket with the greatest left line."""
+    return max(d for d in dependent if minimal(d, dependent))
+
+def at_random(dependent, number):
+    """The shortest dependent bracket that ends beyond a line, or else from line 0 on; of those inside it the minimal one with the least right line."""
+    start = number // 65536 % (COLUMNS + 1)
+    within = next((d for d in dependent if start < d[1]), dependent[0])
+    return from_left([d for d in dependent if inside(within, d)], number)
+
+ORDERS = [('from the left', from_left), ('from the right', from_right), ('at random', at_random)]
 
 def reduce(s, d):
     """Rule 4."""
@@ -122,12 +137,25 @@ def reduce(s, d):
     meets = [(max(i[0], j[0]), min(i[1], j[1])) for i, j in zip(outermost, outermost[1:])]
     return s - set(outermost) | {i for i in meets if i[0] < i[1]}
 
-def final(last, s):
-    while True:
-        d = leftmost(last, s)
-        if d is None:
-            return s
-        s = reduce(s, d)
+def following(number):
+    return (number % 2 ** 31 * 1103515245 + 12345) % 2 ** 31
+
+def seed(name):
+    """The name's bytes, with its line feed, as one number."""
+    number = 0
+    for byte in (name + '\n').encode():
+        number = following(number + byte)
+    return number
+
+def merged(last, s, choose, number):
+    """The number of reductions, and the set in which no bracket is dependent."""
+    for reductions in range(len(s) + 1):
+        number = following(number)
+        dependent = brackets(last, s)
+        if not dependent:
+            return reductions, s
+        s = reduce(s, choose(dependent, number))
+    raise ValueError('more reductions than intervals')
 
 def written(intervals):
     return ''.join(f' ({l}, {r})' for l, r in sorted(intervals))
@@ -135,11 +163,22 @@ def written(intervals):
 def stdin():
     return ''.join(f'{name}\nlast line {last}:{written(s)}\n' for name, last, s in sets())
 
+def merges():
+    """For each set its name and, for each order, the number of reductions and the final set."""
+    for name, last, s in sets():
+        yield name, [merged(last, s, choose, seed(name)) for _, choose in ORDERS]
+
 def stdout():
-    return ''.join(f'{name}\nfinal{written(final(last, s))}\n' for name, last, s in sets())
+    return ''.join(
+        f'{name}\n' + ''.join(f'{order}, {n} reductions:{written(s)}\n' for (order, _), (n, s) in zip(ORDERS, found))
+        for name, found in merges())
 
 def check():
     wrong = 0
+    for name, found in merges():
+        if any(f != found[0] for f in found):
+            print(f'finals.py: {name}: the orders differ')
+            wrong = 1
     for name, text in (('stdin', stdin()), ('stdout', stdout())):
         with open(os.path.join(FOLDER, name)) as f:
             if f.read() != text:

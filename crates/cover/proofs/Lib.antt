@@ -17,6 +17,7 @@ pub mod Determined
 pub mod Demand1
 pub mod Demand2
 pub mod Demand3
+pub mod Merging
 pub mod BrokenColumn
 pub mod RowsHold
 -- What the code's loops rest on.

@@ -6,5 +6,6 @@ pub mod Cover
 pub mod Demand1
 pub mod Demand2
 pub mod Demand3
+pub mod Merging
 pub mod HeldTo
 pub mod Code

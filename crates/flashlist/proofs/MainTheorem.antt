@@ -17,10 +17,12 @@ use Rattle.cover.specs.Cover.{Given, Gives, coverGives}
 use Rattle.cover.specs.Demand1.{Refused}
 use Rattle.cover.specs.Demand2.{Sound, ShortRuled}
 use Rattle.cover.specs.Demand3.{Asked, Demand}
+use Rattle.cover.specs.Merging.{Merging}
 use Rattle.cover.specs.declared.entry.Outcome.{Outcome}
 use Rattle.cover.proofs.Demand1.{demand-1}
 use Rattle.cover.proofs.Demand2.{demand-2, demand-2-short}
 use Rattle.cover.proofs.Demand3.{demand-3, only-asked}
+use Rattle.cover.proofs.Merging.{merging-holds}
 use Rattle.cover.proofs.Rooms.{rooms-kept}
 use Rattle.cover.proofs.Determined.{cover-determined}
 use Rattle.cover.proofs.entry.keekaboor_cover
@@ -75,6 +77,10 @@ cover κs a pre r v g = given-demands g
 -- and has one outcome.
 pub cover-once : Determined keekaboor_cover.Kinds.ps keekaboor_cover.Kinds.r keekaboor_cover.Reads.Pre keekaboor_cover.Reads.Post
 cover-once = cover-determined
+
+-- Whatever minimal bracket is chosen at each step, merging an area's starting set ends in the final set that its flashes stand on, after as many reductions.
+pub any-order : Merging
+any-order = merging-holds
 
 -- A refusal to read or to write a job answers zeros and changes no lent byte.
 pub read-refuses : Always keekaboor_read_job.Kinds.ps keekaboor_read_job.Kinds.r keekaboor_read_job.Reads.Pre keekaboor_read_job.Reads.Post

@@ -8,15 +8,17 @@ use Rattle.lists.specs.Lists.{keep, first}
 use Rattle.method.specs.Intervals.{Interval, span, every}
 use Rattle.method.specs.Dependent.{coveredInside, dependent, minimal}
 use Rattle.method.specs.Reduce.{outermost, meets, reduce}
-use Rattle.method.specs.Final.{leftmost, reduced, final}
+use Rattle.method.specs.Final.{leftmost, reduced, final, traced, trace}
+use Rattle.method.specs.Runs.{Reduces, over, next}
 use Rattle.method.specs.Strike.{heldOnce, strike, least, found, marked}
 
--- a set over the lines 0 to `lines`: its dependent and its minimal brackets, its final set, and its marked columns as they are found
+-- a set over the lines 0 to `lines`: its dependent and its minimal brackets, those that rule 5 reduces, its final set, and its marked columns as they are found
 record Example : Type 0 where
   lines : ℕ
   set : List Interval
   dependents : List Interval
   minimals : List Interval
+  reduces : List Interval
   ends : List Interval
   marks : List ℕ
 
@@ -28,6 +30,7 @@ computed x =
       set = x .set;
       dependents = keep (dependent (x .set)) (every (x .lines));
       minimals = keep (minimal (x .set)) (every (x .lines));
+      reduces = trace (x .lines) (x .set);
       ends = final (x .lines) (x .set);
       marks = map (λ m. m .column) (marked (x .lines) (x .set));
     }
@@ -40,6 +43,7 @@ ex3·2 =
       set = span 0 3 ∷ span 1 3 ∷ span 1 4 ∷ span 2 4 ∷ span 2 5 ∷ span 3 5 ∷ [];
       dependents = span 1 4 ∷ span 1 5 ∷ span 2 5 ∷ [];
       minimals = span 1 4 ∷ span 2 5 ∷ [];
+      reduces = span 1 4 ∷ span 2 5 ∷ [];
       ends = span 0 3 ∷ span 1 3 ∷ span 2 4 ∷ span 3 5 ∷ [];
       marks = 0 ∷ 1 ∷ 2 ∷ 3 ∷ [];
     }
@@ -52,6 +56,7 @@ ex3·6 =
       set = span 0 1 ∷ span 0 3 ∷ span 0 4 ∷ span 1 3 ∷ span 1 4 ∷ span 3 4 ∷ [];
       dependents = span 0 3 ∷ span 0 4 ∷ span 1 4 ∷ [];
       minimals = span 0 3 ∷ span 1 4 ∷ [];
+      reduces = span 0 3 ∷ span 1 4 ∷ span 0 4 ∷ [];
       ends = span 0 1 ∷ span 1 3 ∷ span 3 4 ∷ [];
       marks = 0 ∷ 1 ∷ 3 ∷ [];
     }
@@ -64,6 +69,7 @@ ex3·9 =
       set = span 0 2 ∷ span 0 5 ∷ span 1 7 ∷ span 3 7 ∷ span 4 6 ∷ span 4 9 ∷ span 5 10 ∷ span 8 10 ∷ [];
       dependents = span 0 7 ∷ span 0 10 ∷ span 4 10 ∷ [];
       minimals = span 0 7 ∷ span 4 10 ∷ [];
+      reduces = span 0 7 ∷ span 4 10 ∷ [];
       ends = span 0 2 ∷ span 1 5 ∷ span 3 7 ∷ span 4 6 ∷ span 5 9 ∷ span 8 10 ∷ [];
       marks = 0 ∷ 1 ∷ 3 ∷ 4 ∷ 5 ∷ 8 ∷ [];
     }
@@ -76,6 +82,7 @@ steps =
       set = span 0 1 ∷ span 0 2 ∷ span 1 2 ∷ [];
       dependents = span 0 2 ∷ [];
       minimals = span 0 2 ∷ [];
+      reduces = span 0 2 ∷ [];
       ends = span 0 1 ∷ span 1 2 ∷ [];
       marks = 0 ∷ 1 ∷ [];
     }
@@ -88,6 +95,7 @@ stair =
       set = span 0 1 ∷ span 0 2 ∷ span 1 3 ∷ span 2 3 ∷ [];
       dependents = span 0 3 ∷ [];
       minimals = span 0 3 ∷ [];
+      reduces = span 0 3 ∷ [];
       ends = span 0 1 ∷ span 1 2 ∷ span 2 3 ∷ [];
       marks = 0 ∷ 1 ∷ 2 ∷ [];
     }
@@ -100,6 +108,7 @@ double =
       set = span 0 1 ∷ span 0 2 ∷ span 1 2 ∷ span 2 3 ∷ span 2 4 ∷ span 3 4 ∷ [];
       dependents = span 0 2 ∷ span 0 4 ∷ span 2 4 ∷ [];
       minimals = span 0 2 ∷ span 2 4 ∷ [];
+      reduces = span 0 2 ∷ span 2 4 ∷ [];
       ends = span 0 1 ∷ span 1 2 ∷ span 2 3 ∷ span 3 4 ∷ [];
       marks = 0 ∷ 1 ∷ 2 ∷ 3 ∷ [];
     }
@@ -112,8 +121,22 @@ cup =
       set = span 0 1 ∷ span 0 3 ∷ span 2 3 ∷ [];
       dependents = [];
       minimals = [];
+      reduces = [];
       ends = span 0 1 ∷ span 0 3 ∷ span 2 3 ∷ [];
       marks = 1 ∷ 0 ∷ 2 ∷ [];
+    }
+
+-- columns 2-4, 1-3, 0-2: one bracket is reduced twice
+abbrev again : Example
+again =
+    record {
+      lines = 3;
+      set = span 0 1 ∷ span 0 2 ∷ span 0 3 ∷ span 1 3 ∷ span 2 3 ∷ [];
+      dependents = span 0 3 ∷ [];
+      minimals = span 0 3 ∷ [];
+      reduces = span 0 3 ∷ span 0 3 ∷ [];
+      ends = span 0 1 ∷ span 1 2 ∷ span 2 3 ∷ [];
+      marks = 0 ∷ 1 ∷ 2 ∷ [];
     }
 
 -- a set whose first dependent bracket by left line is not minimal
@@ -124,21 +147,27 @@ long =
       set = span 0 2 ∷ span 0 3 ∷ span 1 6 ∷ span 2 4 ∷ span 2 5 ∷ span 4 5 ∷ span 4 7 ∷ span 6 7 ∷ [];
       dependents = span 0 5 ∷ span 0 7 ∷ span 2 5 ∷ [];
       minimals = span 2 5 ∷ [];
+      reduces = span 2 5 ∷ span 0 7 ∷ [];
       ends = span 0 2 ∷ span 1 3 ∷ span 2 4 ∷ span 4 5 ∷ span 4 6 ∷ span 6 7 ∷ [];
       marks = 0 ∷ 1 ∷ 2 ∷ 5 ∷ 4 ∷ 6 ∷ [];
     }
 
 abbrev table : List Example
-table = ex3·2 ∷ ex3·6 ∷ ex3·9 ∷ steps ∷ stair ∷ double ∷ cup ∷ long ∷ []
+table = ex3·2 ∷ ex3·6 ∷ ex3·9 ∷ steps ∷ stair ∷ double ∷ cup ∷ again ∷ long ∷ []
 
 table-holds : map computed table ≡ table
-unfolding coveredInside dependent minimal outermost meets reduce leftmost reduced final heldOnce strike least found marked
+unfolding coveredInside dependent minimal outermost meets reduce leftmost reduced final traced trace heldOnce strike least found marked
 table-holds = refl
 
 -- 000, example 3.6: "(0, 4) is minimal in S - {(1, 3)}"
 minimal-without : keep (minimal (span 0 1 ∷ span 0 3 ∷ span 0 4 ∷ span 1 4 ∷ span 3 4 ∷ [])) (every 4) ≡ span 0 4 ∷ []
 unfolding coveredInside dependent minimal
 minimal-without = refl
+
+-- the same set merged from the right: the brackets of rule 5 in another order, and its final set
+from-right : Reduces 4 (ex3·6 .set) (span 1 4 ∷ span 0 3 ∷ span 0 4 ∷ []) (ex3·6 .ends)
+unfolding coveredInside dependent minimal outermost meets reduce
+from-right = next (span 1 4) refl (next (span 0 3) refl (next (span 0 4) refl over))
 
 -- a bracket that is dependent and not minimal; the set after its reduction, in which nothing is dependent any more
 record Early : Type 0 where

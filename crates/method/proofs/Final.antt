@@ -20,7 +20,7 @@ use Rattle.method.proofs.Facts.{reduce-listed, reduce-generates, reduce
 use Rattle.method.proofs.Lines.{inside-lines, inside-inside, inside-self}
 use Rattle.method.proofs.Listed.{listed-lines, select-wider, listed-wider}
 use Rattle.method.proofs.Search.{leftmost-minimal, leftmost-ended, ended-leftmost}
-use Rattle.method.proofs.AnyOrder.{run-listed, reduced-done, reduced-run, final-run, final-ended, any-order}
+use Rattle.method.proofs.AnyOrder.{run-listed, reduces-run, reduced-done, traced-reduces, reduced-ended, final-run, final-ended, any-order}
 
 -- along any run: what is left lies inside the set, and makes it up column by column
 pub run-within : {n k : ℕ} {s t : List Interval} → Run n s k t → (i : Interval) → member i t ≡ true → (j : Interval) × (member j s ≡ true) × (inside j i ≡ true)
@@ -48,22 +48,22 @@ ended-final n s h = final-done n s (ended-leftmost n s h)
 
 module _ (n : ℕ) (s : List Interval) (listed : Listed n s) where
   pub final-listed : Listed n (final n s)
-  final-listed = run-listed listed (final-run n s listed .1)
+  final-listed = run-listed listed (final-run n s)
 
   -- every interval of the final set lies inside one of the set
   pub final-within : (i : Interval) → member i (final n s) ≡ true → (j : Interval) × (member j s ≡ true) × (inside j i ≡ true)
-  final-within = run-within (final-run n s listed .1)
+  final-within = run-within (final-run n s)
 
   -- each interval of the set is made up, column by column, of intervals of the final set that lie inside it
   pub final-generates : (i : Interval) (c : ℕ) → member i s ≡ true → holds c i ≡ true
       → (j : Interval) × (member j (final n s) ≡ true) × (holds c j ≡ true) × (inside i j ≡ true)
-  final-generates = run-generates listed (final-run n s listed .1)
+  final-generates = run-generates listed (final-run n s)
 
   -- any minimal bracket may be reduced first
   pub final-reduce : (d : Interval) → minimal s d ≡ true → final n s ≡ final n (reduce n s d)
   final-reduce d t =
       let l = reduce-listed n s d in
-      sym (any-order n s listed (step d t (final-run n (reduce n s d) l .1)) (final-ended n (reduce n s d) l) .0)
+      sym (any-order n s listed (step d t (final-run n (reduce n s d))) (final-ended n (reduce n s d) l) .0)
 
   -- and rule 5's is one
   pub final-step : {d : Interval} → leftmost n s ≡ some d → final n s ≡ final n (reduce n s d)
@@ -71,7 +71,7 @@ module _ (n : ℕ) (s : List Interval) (listed : Listed n s) where
 
   -- more steps than intervals change nothing
   pub reduced-final : (k : ℕ) → length s ≤ k → reduced n k s ≡ final n s
-  reduced-final k h = let r = reduced-run n k s listed h in any-order n s listed (r .1) (r .2) .0
+  reduced-final k h = any-order n s listed (reduces-run (traced-reduces n k s)) (reduced-ended n k s listed h) .0
 
 -- over more lines nothing changes
 module _ (n m : ℕ) (s : List Interval) (more : n ≤ m) (listed : Listed n s) where
@@ -106,4 +106,4 @@ run-wider {n} m more listed (step {s} {t} {k} d least r) =
 -- the final set over n lines is that over any greater number
 pub final-wider : (n m : ℕ) (s : List Interval) → n ≤ m → Listed n s → final n s ≡ final m s
 final-wider n m s more listed =
-    any-order m s (listed-wider n m s more listed) (run-wider m more listed (final-run n s listed .1)) (final-ended n s listed) .0
+    any-order m s (listed-wider n m s more listed) (run-wider m more listed (final-run n s)) (final-ended n s listed) .0

@@ -24,8 +24,12 @@ pub mod InOrder
 pub mod Search
 pub mod AnyOrder
 pub mod Final
+pub mod Trace
+pub mod Bags
 pub mod Once
 pub mod StrikeColumn
 pub mod Marks
+pub mod ByCounts
+pub mod OnePass
 -- Worked examples.
 pub mod Examples

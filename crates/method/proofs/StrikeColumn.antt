@@ -1,5 +1,5 @@
--- Striking a column (000, theorem 4.6): if exactly one interval of the final set holds it, the final set of the rest has one interval fewer.
--- A minimal bracket that does not hold the column is reduced with and without it; if all hold it, the rest has no dependence and the run takes from that column alone.
+-- Striking a column: the bag of the rest is the bag of the set without the brackets that hold the column; so the final set of the rest has fewer intervals by as many
+-- as held it (000, theorem 4.6, for one). A minimal bracket that does not hold the column is reduced with and without it; if all hold it, so does every bracket of a run, and the rest has no dependence.
 use mathlib.Core.Path.{_≡_, refl, sym, ap, fun-ext, _∙_}
 use mathlib.Core.Bool.{Bool, true, false, not, _&&_, _||_, false≢true, and-true, and-false}
 use mathlib.Core.List.{List, [], _∷_, List·Memᴰ·head, List·Memᴰ·tail, List·Memᴰ·not-nil, List·Memᴰ·append-cases, List·Memᴰ·eq-of-singleton}
@@ -16,16 +16,17 @@ use Rattle.lists.proofs.Keep.{keep-same, keep-keep, kept, count-keep, count-res
 use Rattle.method.specs.Intervals.{Interval, proper, holds, inside, same, meet, columns, every, select, member}
 use Rattle.method.specs.Dependent.{coveredInside, dependent, minimal}
 use Rattle.method.specs.Reduce.{outermost, meets, reduce}
-use Rattle.method.specs.Final.{final}
-use Rattle.method.specs.Runs.{Listed, Run, stay, step, Ended}
+use Rattle.method.specs.Final.{final, trace}
+use Rattle.method.specs.Runs.{Listed, Reduces, over, next, SameBag, Ended}
 use Rattle.method.specs.Strike.{strike}
 use Rattle.method.proofs.Lines.{inside-lines, lines-inside, inside-holds}
 use Rattle.method.proofs.Listed.{member-in, member-keep, lines-every, strike-listed}
 use Rattle.method.proofs.Minimal.{dependent-proper, dependent-held, dependent-within, minimal-dependent, minimal-smallest, minimal-if, minimal-inside}
 use Rattle.method.proofs.Sets.{bit}
-use Rattle.method.proofs.Facts.{reduce-listed, reduce-size, reduce-count, reduce-no-new}
-use Rattle.method.proofs.AnyOrder.{final-run}
-use Rattle.method.proofs.Final.{ended-final, final-reduce}
+use Rattle.method.proofs.Facts.{reduce-listed, reduce-size, reduce-no-new}
+use Rattle.method.proofs.AnyOrder.{trace-reduces}
+use Rattle.method.proofs.Trace.{ended-trace, trace-length, trace-count}
+use Rattle.method.proofs.Bags.{bag-length, bag-reduce}
 
 -- what lies inside a bracket that does not hold the column does not hold it
 pub inside-bare : (x : ℕ) (d i : Interval) → holds x d ≡ false → inside d i ≡ true → holds x i ≡ false
@@ -123,17 +124,11 @@ allHold-reduce n x s d listed least h e t =
     let r = minimal-inside s e (reduce-no-new n s d listed least e (minimal-dependent (reduce n s d) e t)) in
     inside-holds e (r .0) x (r .2) (h (r .0) (r .1))
 
--- then a run takes intervals from that column alone
-pub run-column : {n k : ℕ} {s t : List Interval} (x : ℕ) → Listed n s → AllHold x s → Run n s k t → length t + count (holds x) s ≡ length s + count (holds x) t
-run-column x listed h stay = refl
-run-column {n} x listed h (step {s} d least r) =
-    omega (
-      arith,
-      run-column x (reduce-listed n s d) (allHold-reduce n x s d listed least h) r,
-      reduce-size n s d listed least,
-      reduce-count n s d listed least x,
-      ap bit (h d least),
-    )
+-- then every bracket of a run holds it
+pub allHold-reduces : {n : ℕ} {s t ds : List Interval} (x : ℕ) → Listed n s → AllHold x s → Reduces n s ds t → strike x ds ≡ []
+unfolding strike
+allHold-reduces x listed h over = refl
+allHold-reduces {n} x listed h (next {s} d least r) = rw (h d least) (allHold-reduces x (reduce-listed n s d) (allHold-reduce n x s d listed least h) r)
 
 -- and the rest has no dependent bracket
 pub allHold-ended : (x : ℕ) (s : List Interval) → AllHold x s → Ended (strike x s)
@@ -141,17 +136,6 @@ allHold-ended x s h d t =
     let b = strike-bare x s d t in
     let r = minimal-inside s d (sym (strike-dependent x s d b) ∙ t) in
     never (h (r .0) (r .1)) (inside-bare x d (r .0) b (r .2))
-
-pub allHold-final : (n x : ℕ) (s : List Interval) → Listed n s → AllHold x s → count (holds x) (final n s) ≡ 1
-    → suc (length (final n (strike x s))) ≡ length (final n s)
-unfolding strike
-allHold-final n x s listed h once =
-    omega (
-      arith,
-      ap length (ended-final n (strike x s) (allHold-ended x s h)),
-      count-rest (holds x) s,
-      run-column x listed h (final-run n s listed .1),
-    )
 
 -- a minimal bracket that does not hold the column, or none
 abbrev pub clear : ℕ → List Interval → Interval → Bool
@@ -163,10 +147,18 @@ clear-none n x s listed f d t =
     let m = lines-every n d (dependent-proper s d u) (dependent-within n s d listed u) in
     bcase (holds x d) (λ e. e) (λ e. absurd (never (and-both (minimal s d) (not (holds x d)) t (ap not e)) (any-none (clear x s) m f)))
 
-pub strike-fuel : (n x m : ℕ) (s : List Interval) → Listed n s → length s < m → count (holds x) (final n s) ≡ 1
-    → suc (length (final n (strike x s))) ≡ length (final n s)
-strike-fuel n x zero s listed h once = absurd (omega arith)
-strike-fuel n x (suc m) s listed h once =
+-- a struck bag is a bag
+pub strike-same : (x : ℕ) (ds es : List Interval) → SameBag ds es → SameBag (strike x ds) (strike x es)
+unfolding strike
+strike-same x ds es h p = count-keep (λ i. not (holds x i)) p ds ∙ h (λ i. not (holds x i) && p i) ∙ sym (count-keep (λ i. not (holds x i)) p es)
+
+pub strike-keeps : (x : ℕ) (d : Interval) (ds : List Interval) → holds x d ≡ false → strike x (d ∷ ds) ≡ d ∷ strike x ds
+unfolding strike
+strike-keeps x d ds h = rw h
+
+pub strike-fuel : (n x m : ℕ) (s : List Interval) → Listed n s → length s < m → SameBag (trace n (strike x s)) (strike x (trace n s))
+strike-fuel n x zero s listed h p = absurd (omega arith)
+strike-fuel n x (suc m) s listed h p =
     bcase (any (clear x s) (every n))
     (λ u.
     let r = any-found (clear x s) (every n) u in
@@ -174,13 +166,35 @@ strike-fuel n x (suc m) s listed h once =
     let least = and-left (minimal s d) (not (holds x d)) (r .2) in
     let b = not-true (holds x d) (and-right (minimal s d) (not (holds x d)) (r .2)) in
     let z = reduce-size n s d listed least in
-    let e = final-reduce n s listed d least in
-    let f =
-    final-reduce n (strike x s) (strike-listed n s listed x) d (strike-minimal x s d b least) ∙ ap (final n) (strike-reduce n x s d b) in
-    let i = strike-fuel n x m (reduce n s d) (reduce-listed n s d) (omega arith) (ap (count (holds x)) (sym e) ∙ once) in
-    omega (arith, ap length e, ap length f))
-    (λ u. allHold-final n x s listed (clear-none n x s listed u) once)
+    let rest = reduce n s d in
+    bag-reduce n (strike x s) (strike-listed n s listed x) d (strike-minimal x s d b least) p
+    ∙ ap (λ (t : List Interval). count p (d ∷ trace n t)) (strike-reduce n x s d b)
+    ∙ ap (bit (p d) +_) (strike-fuel n x m rest (reduce-listed n s d) (omega arith) p)
+    ∙ sym (ap (count p) (strike-keeps x d (trace n rest) b))
+    ∙ sym (strike-same x (trace n s) (d ∷ trace n rest) (bag-reduce n s listed d least) p))
+    (λ u.
+    let a = clear-none n x s listed u in
+    ap (count p) (ended-trace n (strike x s) (allHold-ended x s a) ∙ sym (allHold-reduces x listed a (trace-reduces n s))))
 
--- striking a column that one interval of the final set holds takes one from the final set
-pub strike-final : (n x : ℕ) (s : List Interval) → Listed n s → count (holds x) (final n s) ≡ 1 → suc (length (final n (strike x s))) ≡ length (final n s)
-strike-final n x s listed once = strike-fuel n x (suc (length s)) s listed (omega arith) once
+module _ (n x : ℕ) (s : List Interval) (listed : Listed n s) where
+  -- the bag of the rest is the bag without the brackets that hold the column
+  pub strike-bag : SameBag (trace n (strike x s)) (strike x (trace n s))
+  strike-bag = strike-fuel n x (suc (length s)) s listed (omega arith)
+
+  -- so the final set loses as many intervals as hold it
+  pub strike-size : length (final n (strike x s)) + count (holds x) (final n s) ≡ length (final n s)
+  unfolding strike
+  strike-size =
+      omega (
+        arith,
+        trace-length n s listed,
+        trace-length n (strike x s) (strike-listed n s listed x),
+        trace-count n s listed x,
+        count-rest (holds x) s,
+        count-rest (holds x) (trace n s),
+        bag-length (trace n (strike x s)) (strike x (trace n s)) strike-bag,
+      )
+
+  -- one, where one holds it
+  pub strike-final : count (holds x) (final n s) ≡ 1 → suc (length (final n (strike x s))) ≡ length (final n s)
+  strike-final once = omega (arith, strike-size)

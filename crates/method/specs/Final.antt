@@ -30,11 +30,11 @@ reduced n (suc k) s = elim (leftmost n s) [ none ↦ s | some d ↦ reduced n k 
 unfoldable pub final : ℕ → List Interval → List Interval
 final n s = reduced n (length s) s
 
--- the brackets of at most k reductions, in order
+-- the brackets of at most k of these reductions, in order
 unfoldable pub traced : ℕ → ℕ → List Interval → List Interval
 traced n zero s = []
 traced n (suc k) s = elim (leftmost n s) [ none ↦ [] | some d ↦ d ∷ traced n k (reduce n s d) ]
 
--- the brackets that rule 5 reduces, in order: "While some bracket is dependent, reduce the minimal bracket with the least right line."
+-- the brackets that rule 5 reduces on its way to the final set, in order: a bracket reduced again stands again
 unfoldable pub trace : ℕ → List Interval → List Interval
 trace n s = traced n (length s) s

@@ -4,3 +4,4 @@ pub mod Reduce
 pub mod Final
 pub mod Runs
 pub mod Strike
+pub mod ByCounts

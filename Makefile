@@ -1,7 +1,7 @@
 # make               the library for C, target/lib/libkeekaboor.a (tools/archives)
 # make install       library, header and pkg-config file under PREFIX, for a packager below DESTDIR
 # make uninstall     takes these three away
-# make bench         the cover beside the same method plainly written and the quickest form by hand
+# make bench         the cover by either search, beside the same method plainly written and the quickest form by hand; one final set by itself
 
 PREFIX = /usr/local
 DESTDIR =

@@ -105,6 +105,15 @@ struct keekaboor_outcome keekaboor_cover(uint64_t width, uint64_t height, uint64
                                          uint8_t *mark_room, size_t mark_len);
 
 /*
+ * The same promise, outcome for outcome and byte for byte, by the plain search, which begins anew after each step and takes
+ * longer on wide areas: to compare with, or for whoever wants the plainest form.
+ */
+struct keekaboor_outcome keekaboor_cover_plain(uint64_t width, uint64_t height, uint64_t allowance,
+                                               const uint8_t *raster, size_t raster_len,
+                                               uint8_t *flash_room, size_t flash_len,
+                                               uint8_t *mark_room, size_t mark_len);
+
+/*
  * The text of a job: `shape`, width, height, allowance; then for each row, from the top row down, `row`,
  * its number and one character for each column, `#` copper and `.` none. Fields are parted by one tab,
  * each line ends with one line feed, numbers are decimal without sign or leading zero.

@@ -1,5 +1,6 @@
 //! Links the proved functions, for which it asks `tools/archives`: that script builds the library anew wherever the crates
-//! have changed, so none that is stale is ever linked. Beside them stands the cover written by hand in C (`hand/`).
+//! have changed, so none that is stale is ever linked. Beside them stand the cover written by hand in C
+//! (`hand/`) and the crate `timed`, which only the benchmark calls.
 //! All of this is code for x86-64: there it is linked in; on another machine it is linked into a small program of its own,
 //! `far/far.c`, that the wrappers of `src/ffi.rs` talk to. The feature `far` has that program on x86-64 too, to try it.
 
@@ -21,14 +22,24 @@ fn main() {
         rerun_when_changed(&root.join(part));
     }
     let library = PathBuf::from(said(&mut Command::new(root.join("tools/archives"))).trim_end());
+    let timed = PathBuf::from(said(Command::new(root.join("tools/archives")).arg("timed")).trim_end());
     rerun_when_changed(&library);
+    rerun_when_changed(&timed);
     let compiler = root.join("tools/x86-64");
     let far =
         std::env::var_os("CARGO_FEATURE_FAR").is_some() || std::env::var("CARGO_CFG_TARGET_ARCH").unwrap() != "x86_64";
     if far {
         let program = out.join("far");
         let sources = BY_HAND.iter().chain(&["far/far.c"]).map(|file| here.join(file));
-        said(Command::new(&compiler).arg("cc").args(STRICT).args(sources).arg(&library).arg("-o").arg(&program));
+        said(
+            Command::new(&compiler)
+                .arg("cc")
+                .args(STRICT)
+                .args(sources)
+                .args([&library, &timed])
+                .arg("-o")
+                .arg(&program),
+        );
         let prefix = said(Command::new(&compiler).arg("prefix"));
         println!("cargo:rustc-env=FAR_WORDS={}\u{1f}{}", prefix.replace('\n', "\u{1f}"), program.display());
         return;
@@ -38,6 +49,7 @@ fn main() {
         said(Command::new(&compiler).arg("cc").args(STRICT).arg("-c").arg(here.join(file)).arg("-o").arg(&object));
         println!("cargo:rustc-link-arg={}", object.display());
     }
+    println!("cargo:rustc-link-arg={}", timed.display());
     println!("cargo:rustc-link-search=native={}", library.parent().unwrap().display());
     println!("cargo:rustc-link-lib=static=keekaboor");
 }

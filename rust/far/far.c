@@ -14,14 +14,18 @@
 #include <time.h>
 #include <unistd.h>
 
-enum { READ_JOB, WRITE_JOB, CHECK, COVERS };
+enum { READ_JOB, WRITE_JOB, CHECK, FINAL_SETS, PLAIN_FINAL_SETS, COVERS };
 
 /* How many fields the longest outcome has. */
 enum { NUMBERS = 7 };
 
 /* The covers, whose numbers follow. */
 static struct keekaboor_outcome (*const covers[])(uint64_t, uint64_t, uint64_t, const uint8_t *, size_t, uint8_t *, size_t,
-                                                  uint8_t *, size_t) = {keekaboor_cover, quick_cover, plain_cover};
+                                                  uint8_t *, size_t) = {keekaboor_cover, keekaboor_cover_plain,
+                                                                     quick_cover, plain_cover};
+
+/* The crate timed, for the benchmark alone. */
+uint64_t timed_final_sets(uint64_t width, uint64_t height, const uint8_t *raster, size_t raster_len, uint64_t plain, uint64_t more);
 
 struct request {
     uint64_t function, times, number[3], size[3], guard;
@@ -80,6 +84,10 @@ static void call(const struct request *r, uint8_t *const buffer[3], uint64_t out
         memcpy(outcome, all, sizeof all);
         break;
     }
+    case FINAL_SETS:
+    case PLAIN_FINAL_SETS:
+        outcome[0] = timed_final_sets(n[0], n[1], buffer[0], size[0], r->function == PLAIN_FINAL_SETS, n[2]);
+        break;
     default: {
         if (r->function - COVERS >= sizeof covers / sizeof *covers)
             exit(2);

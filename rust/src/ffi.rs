@@ -71,12 +71,20 @@ mod linked {
     #[derive(Clone, Copy, Debug, PartialEq, Eq)]
     pub enum Engine {
         Exported,
+        ExportedPlain,
         Quick,
         Plain,
     }
 
+    /// The exported cover; the one by the plain search is called beside it, and gives the same outcome and the same bytes.
     pub fn cover(numbers: (u64, u64, u64), raster: &[u8], flash_room: &mut [u8], mark_room: &mut [u8]) -> Outcome {
-        cover_by(Engine::Exported, numbers, raster, flash_room, mark_room)
+        let (mut flashes, mut marks) = (flash_room.to_vec(), mark_room.to_vec());
+        let plain = cover_by(Engine::ExportedPlain, numbers, raster, &mut flashes, &mut marks);
+        let outcome = cover_by(Engine::Exported, numbers, raster, flash_room, mark_room);
+        assert_eq!(plain, outcome, "the two searches' outcomes differ: {numbers:?} {raster:?}");
+        assert_eq!(flashes, flash_room, "the two searches' flash rooms differ: {numbers:?} {raster:?}");
+        assert_eq!(marks, mark_room, "the two searches' mark rooms differ: {numbers:?} {raster:?}");
+        outcome
     }
 
     pub fn cover_by(
@@ -141,12 +149,22 @@ mod linked {
         call(&Request { function: Function::ReadJob, numbers: [0; 3], times }, &mut lent).time
     }
 
+    /// How long so many final sets of an area's starting set take, by themselves; and how many intervals they have.
+    pub fn time_final_sets(plain: bool, times: u64, (width, height): (u64, u64), raster: &[u8]) -> (Duration, u64) {
+        let mut lent = [Lent::new(raster), Lent::new(&[]), Lent::new(&[])];
+        let request =
+            Request { function: Function::FinalSets { plain }, numbers: [width, height, times - 1], times: 1 };
+        let reply = call(&request, &mut lent);
+        (reply.time, reply.numbers[0])
+    }
+
     #[derive(Clone, Copy)]
     pub(super) enum Function {
         Cover(Engine),
         ReadJob,
         WriteJob,
         Check,
+        FinalSets { plain: bool },
     }
 
     pub(super) struct Request {
@@ -251,7 +269,7 @@ mod direct {
         };
     }
 
-    covers!(keekaboor_cover quick_cover plain_cover);
+    covers!(keekaboor_cover keekaboor_cover_plain quick_cover plain_cover);
 
     extern "C" {
         fn keekaboor_read_job(text: *const u8, text_len: usize, raster_room: *mut u8, raster_len: usize)
@@ -276,6 +294,14 @@ mod direct {
             mark_room: *mut u8,
             mark_len: usize,
         ) -> CheckOutcome;
+        fn timed_final_sets(
+            width: u64,
+            height: u64,
+            raster: *const u8,
+            raster_len: usize,
+            plain: u64,
+            more: u64,
+        ) -> u64;
     }
 
     pub(super) fn call(request: &Request, lent: &mut [Lent; 3]) -> Reply {
@@ -292,6 +318,7 @@ mod direct {
                     Function::Cover(engine) => {
                         let cover = match engine {
                             Engine::Exported => keekaboor_cover,
+                            Engine::ExportedPlain => keekaboor_cover_plain,
                             Engine::Quick => quick_cover,
                             Engine::Plain => plain_cover,
                         };
@@ -309,6 +336,9 @@ mod direct {
                     Function::Check => {
                         let o = keekaboor_check(x, y, z, a, len[0], b, len[1], c, len[2]);
                         [o.answer, o.place_x, o.place_y, o.verdict, o.flashes, o.above, o.marks]
+                    }
+                    Function::FinalSets { plain } => {
+                        [timed_final_sets(x, y, a, len[0], plain.into(), z), 0, 0, 0, 0, 0, 0]
                     }
                 }
             };
@@ -335,9 +365,12 @@ mod far {
             Function::ReadJob => 0,
             Function::WriteJob => 1,
             Function::Check => 2,
-            Function::Cover(Engine::Exported) => 3,
-            Function::Cover(Engine::Quick) => 4,
-            Function::Cover(Engine::Plain) => 5,
+            Function::FinalSets { plain: false } => 3,
+            Function::FinalSets { plain: true } => 4,
+            Function::Cover(Engine::Exported) => 5,
+            Function::Cover(Engine::ExportedPlain) => 6,
+            Function::Cover(Engine::Quick) => 7,
+            Function::Cover(Engine::Plain) => 8,
         }
     }
 

@@ -1,5 +1,5 @@
-//! The covers written by hand in C, `hand/quick.c` and `hand/plain.c`, byte for byte against the exported one: what the
-//! benchmark sets side by side gives the same outcomes and writes the same rooms.
+//! The covers written by hand in C, `hand/quick.c` and `hand/plain.c`, and the exported one by the plain search, byte for byte
+//! against the exported one: what the benchmark sets side by side gives the same outcomes and writes the same rooms.
 
 use keekaboor_tests::areas::*;
 use keekaboor_tests::ffi::{cover_by, Engine, Outcome};
@@ -26,7 +26,10 @@ fn alike(engines: &[Engine], numbers: (u64, u64, u64), raster: &[u8], rooms: (us
     wanted.0.answer
 }
 
-const BOTH: [Engine; 2] = [Engine::Quick, Engine::Plain];
+const ALL: [Engine; 3] = [Engine::ExportedPlain, Engine::Quick, Engine::Plain];
+
+/// Without the one that takes long at 64 columns.
+const QUICKER: [Engine; 2] = [Engine::ExportedPlain, Engine::Quick];
 
 fn of_area(engines: &[Engine], area: &Area, allowance: u64) -> u64 {
     alike(engines, (area.width as u64, area.height as u64, allowance), &area.raster, (FLASH_ROOM, MARK_ROOM))
@@ -36,8 +39,8 @@ fn of_area(engines: &[Engine], area: &Area, allowance: u64) -> u64 {
 fn every_area_up_to_4_by_4() {
     for (width, height) in (1..=4).flat_map(|w| (1..=4).map(move |h| (w, h))) {
         for (index, area) in every_area(width, height).enumerate() {
-            of_area(&BOTH, &area, 64);
-            of_area(&BOTH, &area, index as u64 % 5);
+            of_area(&ALL, &area, 64);
+            of_area(&ALL, &area, index as u64 % 5);
         }
     }
 }
@@ -46,7 +49,7 @@ fn every_area_up_to_4_by_4() {
 fn random_areas_of_every_family() {
     let mut random = Random::new(31);
     let mut answers = [0; 10];
-    for (count, most, engines) in [(60_000, 10, &BOTH[..]), (6000, 24, &BOTH), (400, 64, &BOTH[..1])] {
+    for (count, most, engines) in [(60_000, 10, &ALL[..]), (6000, 24, &ALL), (400, 64, &QUICKER)] {
         for _ in 0..count {
             let area = any_area(&mut random, most, most);
             let allowance = if random.one_in(3) { random.below(most) as u64 } else { 64 };
@@ -62,7 +65,7 @@ fn rough_areas_of_64_columns() {
     for family in FAMILIES {
         let mut random = Random::new(64);
         for _ in 0..20 {
-            of_area(&BOTH[..1], &area(&mut random, family, 64, 64, 1, 0), 64);
+            of_area(&QUICKER, &area(&mut random, family, 64, 64, 1, 0), 64);
         }
     }
 }
@@ -75,7 +78,7 @@ fn damaged_rasters() {
         let most = if index % 10 == 0 { 64 } else { 12 };
         let mut area = any_area(&mut random, most, most);
         damage_raster(&mut random, &mut area);
-        let engines = if most == 12 { &BOTH[..] } else { &BOTH[..1] };
+        let engines = if most == 12 { &ALL[..] } else { &QUICKER };
         answers[of_area(engines, &area, random.below(12) as u64) as usize] += 1;
     }
     assert!([0, 7, 8, 9].iter().all(|&answer| answers[answer] > 200), "{answers:?}");
@@ -89,7 +92,7 @@ fn refusals_in_their_order() {
             let right = width.checked_mul(height).filter(|&n| n <= 4096).unwrap_or(9) as usize;
             for length in [right, right + 1, 0] {
                 for byte in [0, 1, 2] {
-                    alike(&BOTH, (width, height, allowance), &vec![byte; length], (flash_room, mark_room));
+                    alike(&ALL, (width, height, allowance), &vec![byte; length], (flash_room, mark_room));
                 }
             }
         }

@@ -1,5 +1,5 @@
 /*
- * How much stack the cover takes: the stack below this program's own frames is painted, the cover is
+ * How much stack the covers take, by either search: the stack below this program's own frames is painted, a cover is
  * called, and what is no longer paint was used. Prints the bytes, on the worst of a few areas of 64 columns.
  */
 #include <keekaboor.h>
@@ -43,15 +43,19 @@ __attribute__((noinline)) static size_t used(uintptr_t top) {
 
 int main(void) {
     void (*const draw[])(void) = {full, stair, comb};
+    struct keekaboor_outcome (*const covers[])(uint64_t, uint64_t, uint64_t, const uint8_t *, size_t, uint8_t *, size_t, uint8_t *,
+                                               size_t) = {keekaboor_cover, keekaboor_cover_plain};
     volatile uint8_t here = 0;
     uintptr_t top = (uintptr_t)&here;
     size_t most = 0;
     for (size_t i = 0; i < sizeof draw / sizeof *draw; i++) {
-        draw[i]();
-        paint(top);
-        keekaboor_cover(SIDE, SIDE, SIDE, raster, sizeof raster, flashes, sizeof flashes, marks, sizeof marks);
-        size_t now = used(top);
-        most = now > most ? now : most;
+        for (size_t j = 0; j < sizeof covers / sizeof *covers; j++) {
+            draw[i]();
+            paint(top);
+            covers[j](SIDE, SIDE, SIDE, raster, sizeof raster, flashes, sizeof flashes, marks, sizeof marks);
+            size_t now = used(top);
+            most = now > most ? now : most;
+        }
     }
     printf("%zu\n", most);
 }

@@ -3,7 +3,7 @@
 use mathlib.Core.Path.{_≡_, refl, sym, ap, _∙_}
 use mathlib.Core.List.{List}
 use Prim.Native.Nat.{ℕ}
-use Rattle.grid.proofs.Outcome.{Determined}
+use Rattle.grid.proofs.Outcome.{Determined, Alike}
 use Rattle.cover.specs.Cover.{Given, Gives}
 use Rattle.cover.specs.declared.entry.Outcome.{Outcome}
 use Rattle.cover.proofs.slices.last_line
@@ -17,6 +17,7 @@ use Rattle.cover.proofs.entry.sizes_checked
 use Rattle.cover.proofs.entry.raster_checked
 use Rattle.cover.proofs.entry.cover_area
 use Rattle.cover.proofs.entry.keekaboor_cover
+use Rattle.cover.proofs.entry.keekaboor_cover_plain
 
 pub last-line-determined : Determined last_line.Kinds.ps last_line.Kinds.r last_line.Reads.Pre last_line.Reads.Post
 last-line-determined κs a pre x y v w p q = (p ∙ sym q, refl)
@@ -42,7 +43,7 @@ note-marks-determined κs a pre x y v w p q =
     let s = p .struck ∙ sym (q .struck) in
     let d = p .done ∙ sym (q .done) in
     let r = p .by-column ∙ sym (q .by-column) in
-    (refl, λ i. (tt, (tt, (s i, (d i, (r i, tt))))))
+    (refl, λ i. (tt, (tt, (s i, (d i, (r i, (tt, tt)))))))
 
 pub write-marks-determined : Determined write_marks.Kinds.ps write_marks.Kinds.r write_marks.Reads.Pre write_marks.Reads.Post
 write-marks-determined κs a pre x y v w p q =
@@ -60,10 +61,25 @@ cover-area-determined κs a pre x y v w p q =
     let e = p ∙ sym q in
     let f = ap (λ (g : Given). g .flashesAfter) e in
     let m = ap (λ (g : Given). g .marksAfter) e in
-    (ap (λ (g : Given). g .outcome) e, λ i. (tt, (tt, (f i, (m i, tt)))))
+    (ap (λ (g : Given). g .outcome) e, λ i. (tt, (tt, (f i, (m i, (tt, tt))))))
 
 pub cover-determined : Determined keekaboor_cover.Kinds.ps keekaboor_cover.Kinds.r keekaboor_cover.Reads.Pre keekaboor_cover.Reads.Post
 cover-determined κs a pre x y v w p q =
+    let e = p ∙ sym q in
+    let f = ap (λ (g : Given). g .flashesAfter) e in
+    let m = ap (λ (g : Given). g .marksAfter) e in
+    (ap (λ (g : Given). g .outcome) e, λ i. (tt, (tt, (tt, (tt, (f i, (m i, tt)))))))
+
+pub cover-plain-determined : Determined keekaboor_cover_plain.Kinds.ps keekaboor_cover_plain.Kinds.r keekaboor_cover_plain.Reads.Pre keekaboor_cover_plain.Reads.Post
+cover-plain-determined κs a pre x y v w p q =
+    let e = p ∙ sym q in
+    let f = ap (λ (g : Given). g .flashesAfter) e in
+    let m = ap (λ (g : Given). g .marksAfter) e in
+    (ap (λ (g : Given). g .outcome) e, λ i. (tt, (tt, (tt, (tt, (f i, (m i, tt)))))))
+
+-- Whichever search is used, the same outcome and the same bytes (02, R-13).
+pub both-covers : Alike keekaboor_cover.Kinds.ps keekaboor_cover.Kinds.r keekaboor_cover.Reads.Pre keekaboor_cover.Reads.Post keekaboor_cover_plain.Reads.Pre keekaboor_cover_plain.Reads.Post
+both-covers κs a pre pre′ x y v w p q =
     let e = p ∙ sym q in
     let f = ap (λ (g : Given). g .flashesAfter) e in
     let m = ap (λ (g : Given). g .marksAfter) e in

@@ -12,7 +12,7 @@ use Rattle.lists.proofs.Blocks.{blocks-length, blocks-read}
 use Rattle.grid.specs.Limits.{flashRecord, markRecord}
 use Rattle.grid.specs.Squares.{Rectangle, Square}
 use Rattle.grid.specs.Rooms.{written, recordIn}
-use Rattle.grid.proofs.Writing.{from-start}
+use Rattle.grid.proofs.Writing.{from-start, record-later}
 use Rattle.cover.specs.Records.{flashBytes, markBytes, flashOf, markOf, flashesWritten, marksWritten, flashIn, markIn, flashesIn, marksIn}
 
 pub flashes-length : (qs : List Rectangle) → length (gather flashBytes qs) ≡ length qs * flashRecord
@@ -21,21 +21,15 @@ flashes-length = blocks-length flashBytes flashRecord (λ q. refl)
 pub marks-length : (ss : List Square) → length (gather markBytes ss) ≡ length ss * markRecord
 marks-length = blocks-length markBytes markRecord (λ s. refl)
 
--- a record further on is found as if the first were not there
-later : (size : ℕ) (block rest : List ℕ) (k : ℕ) → drop size (block ++ rest) ≡ rest → recordIn size (block ++ rest) (suc k) ≡ recordIn size rest k
-later size block rest k e =
-    let n : suc k * size ≡ size + k * size = omega arith in
-    ap (λ m. take size (drop m (block ++ rest))) n ∙ ap (take size) (sym (drop-drop (k * size) size (block ++ rest)) ∙ ap (drop (k * size)) e)
-
 -- what is written is read back
 pub flashes-read : (qs : List Rectangle) (room : List ℕ) → flashesIn (length qs) (flashesWritten qs room) ≡ qs
 unfolding flashesIn
 flashes-read qs room =
     ap (flashesIn (length qs)) (from-start room (gather flashBytes qs))
-    ∙ blocks-read flashBytes flashIn (λ q rest. refl) (λ q rest k. ap flashOf (later flashRecord (flashBytes q) rest k refl)) qs (drop (length (gather flashBytes qs)) room)
+    ∙ blocks-read flashBytes flashIn (λ q rest. refl) (λ q rest k. ap flashOf (record-later flashRecord (flashBytes q) rest k refl)) qs (drop (length (gather flashBytes qs)) room)
 
 pub marks-read : (ss : List Square) (room : List ℕ) → marksIn (length ss) (marksWritten ss room) ≡ ss
 unfolding marksIn
 marks-read ss room =
     ap (marksIn (length ss)) (from-start room (gather markBytes ss))
-    ∙ blocks-read markBytes markIn (λ s rest. refl) (λ s rest k. ap markOf (later markRecord (markBytes s) rest k refl)) ss (drop (length (gather markBytes ss)) room)
+    ∙ blocks-read markBytes markIn (λ s rest. refl) (λ s rest k. ap markOf (record-later markRecord (markBytes s) rest k refl)) ss (drop (length (gather markBytes ss)) room)

@@ -25,7 +25,8 @@ use grid::raster;
 use grid::raster::Job;
 use grid::raster::Size;
 use intervals::Table;
-use intervals::final_set::final_set;
+use intervals::final_set::Search;
+use intervals::final_set::final_copy;
 use intervals::table;
 
 #[repr(C)]
@@ -119,15 +120,14 @@ pub fn raster_checked(size: Size, raster: &[u8]) -> Answer
 }
 
 // The starting set into one table, and its final set into the other.
-fn start_area(size: Size, raster: &[u8], set: &mut Table, work: &mut Table)
+fn start_area(size: Size, raster: &[u8], set: &mut Table, work: &mut Table, search: Search)
     requires { ⌜ Sized size (now raster) ⌝ }
     requires { ⌜ now set ≡ tableOf [] ⌝ }
     ensures { λ _. ⌜ now (set .exit) ≡ tableOf (Slices.starting (areaIn size (now (raster .entry))) (size .width) (size .height)) ⌝ }
     ensures { λ _. ⌜ now (work .exit) ≡ tableOf (final (size .width) (Slices.starting (areaIn size (now (raster .entry))) (size .width) (size .height))) ⌝ }
 {
     starting(size, raster, set);
-    table::copy(set, work);
-    final_set(work, last_line(size));
+    final_copy(set, work, last_line(size), search);
 }
 
 // The marks of the starting set into their room, the first by column, at most `most` of them.
@@ -138,18 +138,25 @@ fn mark_area(
     work: &mut Table,
     most: usize,
     room: &mut [u8],
+    search: Search,
 ) -> usize
     requires { ⌜ Sized size (now raster) ⌝ }
     requires { ⌜ (now set ≡ tableOf (Slices.starting (areaIn size (now raster)) (size .width) (size .height))) × (markRoom ≤ length (now room)) ⌝ }
     ensures { λ r. ⌜ MarksDone (take most (Marks.marks (areaIn size (now (raster .entry))) (size .width) (size .height))) (now (room .entry)) r (now (room .exit)) ⌝ }
 {
     let mut rows = [0u8; limits::SIDE];
-    note_marks(size, raster, set, work, &mut rows);
+    note_marks(size, raster, set, work, &mut rows, search);
     write_marks(&rows, last_line(size), most, room)
 }
 
 // The cover of an area that has passed every check: what the entry point does after them, and what whoever has checked already may call.
-pub fn cover_area(job: Job, raster: &[u8], flash_room: &mut [u8], mark_room: &mut [u8]) -> Outcome
+pub fn cover_area(
+    job: Job,
+    raster: &[u8],
+    flash_room: &mut [u8],
+    mark_room: &mut [u8],
+    search: Search,
+) -> Outcome
     requires { ⌜ Sized (job .size) (now raster) ⌝ }
     requires { ⌜ (job .allowance ≤ allowanceLimit) × (flashRoom ≤ length (now «flash_room»)) × (markRoom ≤ length (now «mark_room»)) ⌝ }
     ensures { λ r. ⌜ record { outcome = r; flashesAfter = now («flash_room» .exit); marksAfter = now («mark_room» .exit) } ≡ answered (areaIn (job .size) (now (raster .entry))) (job .size .width) (job .size .height) (job .allowance) (now («flash_room» .entry)) (now («mark_room» .entry)) ⌝ }
@@ -157,7 +164,7 @@ pub fn cover_area(job: Job, raster: &[u8], flash_room: &mut [u8], mark_room: &mu
     let size = job.size;
     let mut set = table::empty();
     let mut work = table::empty();
-    start_area(size, raster, &mut set, &mut work);
+    start_area(size, raster, &mut set, &mut work, search);
     if job.allowance < table::size(&work, last_line(size)) {
         let marks = mark_area(
             size,
@@ -166,22 +173,32 @@ pub fn cover_area(job: Job, raster: &[u8], flash_room: &mut [u8], mark_room: &mu
             &mut work,
             job.allowance + 1,
             mark_room,
+            search,
         );
         return short(marks);
     }
     let flashed = write_flashes(size, raster, &work, flash_room);
-    let marks = mark_area(size, raster, &mut set, &mut work, limits::SIDE, mark_room);
+    let marks = mark_area(
+        size,
+        raster,
+        &mut set,
+        &mut work,
+        limits::SIDE,
+        mark_room,
+        search,
+    );
     covered(raster::copper_number(size, raster), flashed, marks)
 }
 
-#[no_mangle]
-pub extern "C" fn keekaboor_cover(
+// The checks, and then the cover by the search that is chosen.
+fn cover_checked(
     width: u64,
     height: u64,
     allowance: u64,
     raster: &[u8],
     flash_room: &mut [u8],
     mark_room: &mut [u8],
+    search: Search,
 ) -> Outcome
     ensures { λ r. ⌜ Gives width height allowance (now (raster .entry)) (now («flash_room» .entry)) (now («mark_room» .entry)) r (now («flash_room» .exit)) (now («mark_room» .exit)) ⌝ }
 {
@@ -208,5 +225,50 @@ pub extern "C" fn keekaboor_cover(
         size,
         allowance: allowance as usize,
     };
-    cover_area(job, raster, flash_room, mark_room)
+    cover_area(job, raster, flash_room, mark_room, search)
+}
+
+#[no_mangle]
+pub extern "C" fn keekaboor_cover(
+    width: u64,
+    height: u64,
+    allowance: u64,
+    raster: &[u8],
+    flash_room: &mut [u8],
+    mark_room: &mut [u8],
+) -> Outcome
+    ensures { λ r. ⌜ Gives width height allowance (now (raster .entry)) (now («flash_room» .entry)) (now («mark_room» .entry)) r (now («flash_room» .exit)) (now («mark_room» .exit)) ⌝ }
+{
+    cover_checked(
+        width,
+        height,
+        allowance,
+        raster,
+        flash_room,
+        mark_room,
+        Search::Swept,
+    )
+}
+
+// The same promise, by the plain search.
+#[no_mangle]
+pub extern "C" fn keekaboor_cover_plain(
+    width: u64,
+    height: u64,
+    allowance: u64,
+    raster: &[u8],
+    flash_room: &mut [u8],
+    mark_room: &mut [u8],
+) -> Outcome
+    ensures { λ r. ⌜ Gives width height allowance (now (raster .entry)) (now («flash_room» .entry)) (now («mark_room» .entry)) r (now («flash_room» .exit)) (now («mark_room» .exit)) ⌝ }
+{
+    cover_checked(
+        width,
+        height,
+        allowance,
+        raster,
+        flash_room,
+        mark_room,
+        Search::Plain,
+    )
 }

@@ -29,8 +29,8 @@ use intervals::Table;
 use intervals::column::held;
 use intervals::column::least;
 use intervals::column::strike;
-use intervals::final_set::final_set;
-use intervals::table::copy;
+use intervals::final_set::Search;
+use intervals::final_set::final_copy;
 
 pub enum Once {
     Nowhere,
@@ -52,12 +52,11 @@ fn held_once(t: &Table, last: Line) -> Once
 }
 
 // The same of the set's final set, which `work` holds afterwards.
-fn next_column(set: &Table, work: &mut Table, last: Line) -> Once
+fn next_column(set: &Table, work: &mut Table, last: Line, search: Search) -> Once
     requires { ⌜ Tabled (last .0) (now set) ⌝ }
     ensures { λ r. ⌜ (r ≡ onceOf (heldOnce (last .0) (final (last .0) (setOf (last .0) (now (set .entry)))))) × (now (work .exit) ≡ tableOf (final (last .0) (setOf (last .0) (now (set .entry))))) ⌝ }
 {
-    copy(set, work);
-    final_set(work, last);
+    final_copy(set, work, last, search);
     held_once(work, last)
 }
 
@@ -73,13 +72,20 @@ fn mark_row(size: Size, raster: &[u8], i: Interval) -> Row
 }
 
 // One mark is noted and its column struck from the set; or nothing is left, and this is told.
-fn note_mark(size: Size, raster: &[u8], set: &mut Table, work: &mut Table, rows: &mut [u8]) -> bool
+fn note_mark(
+    size: Size,
+    raster: &[u8],
+    set: &mut Table,
+    work: &mut Table,
+    rows: &mut [u8],
+    search: Search,
+) -> bool
     requires { ⌜ Sized size (now raster) ⌝ }
     requires { ⌜ Tabled (size .width) (now set) × (size .width ≤ length (now rows)) ⌝ }
     ensures { λ r. ⌜ Turned (areaIn size (now (raster .entry))) (size .width) (size .height) (now (set .entry)) (now (rows .entry)) r (now (set .exit)) (now (work .exit)) (now (rows .exit)) ⌝ }
 {
     let last = last_line(size);
-    let Once::In(column) = next_column(set, work, last) else {
+    let Once::In(column) = next_column(set, work, last, search) else {
         return false;
     };
     // Always found: a column that the final set holds is held by the set.
@@ -94,12 +100,19 @@ fn note_mark(size: Size, raster: &[u8], set: &mut Table, work: &mut Table, rows:
 }
 
 // The marks of the set, by column: one more than the row of the column's mark. Both tables are empty afterwards.
-pub fn note_marks(size: Size, raster: &[u8], set: &mut Table, work: &mut Table, rows: &mut [u8])
+pub fn note_marks(
+    size: Size,
+    raster: &[u8],
+    set: &mut Table,
+    work: &mut Table,
+    rows: &mut [u8],
+    search: Search,
+)
     requires { ⌜ Sized size (now raster) ⌝ }
     requires { ⌜ Tabled (size .width) (now set) × (size .width ≤ length (now rows)) ⌝ }
     ensures { λ _. ⌜ Noted (areaIn size (now (raster .entry))) (size .width) (size .height) (setOf (size .width) (now (set .entry))) (now (rows .entry)) (now (set .exit)) (now (work .exit)) (now (rows .exit)) ⌝ }
 {
-    while note_mark(size, raster, set, work, rows) {}
+    while note_mark(size, raster, set, work, rows, search) {}
 }
 
 // The n-th record of the room.

@@ -3,6 +3,7 @@ ghost use Prim.Native.Nat.{_≤_, _<_};
 ghost use lib.ListN.{length};
 ghost use Rattle.grid.specs.Limits.{side};
 ghost use Rattle.intervals.specs.Table.{Tabled};
+use grid::limits::BRACKET_ROOM;
 use grid::limits::LINES;
 use grid::limits::SIDE;
 use grid::lines::Interval;
@@ -238,14 +239,13 @@ fn merge_chosen(t: &mut Table, last: Line, order: Order, seed: usize) -> usize
     cells
 }
 
-// Rule 5 itself; as many reductions as intervals less.
+// Rule 5 itself.
 fn merge_left(t: &mut Table, last: Line) -> usize
     requires { ⌜ Tabled (last .0) (now t) ⌝ }
     ensures { λ r. ⌜ Tabled (last .0) (now (t .exit)) ⌝ }
 {
-    let before = table::size(t, last);
-    final_set(t, last);
-    before - table::size(t, last)
+    let mut room = [0u8; BRACKET_ROOM];
+    final_set(t, last, &mut room)
 }
 
 // Leaves the final set, and tells the number of reductions.

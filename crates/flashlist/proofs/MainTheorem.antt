@@ -12,7 +12,7 @@ use Rattle.grid.specs.Limits.{flashRecord, markRecord, flashRoom, markRoom, ras
 use Rattle.grid.specs.Answers.{allowanceShort}
 use Rattle.grid.specs.Raster.{areaOf}
 use Rattle.grid.specs.Rooms.{Written, Kept}
-use Rattle.grid.proofs.Outcome.{Always, Determined}
+use Rattle.grid.proofs.Outcome.{Always, Determined, Alike}
 use Rattle.cover.specs.Cover.{Given, Gives, coverGives}
 use Rattle.cover.specs.Demand1.{Refused}
 use Rattle.cover.specs.Demand2.{Sound, ShortRuled}
@@ -24,8 +24,9 @@ use Rattle.cover.proofs.Demand2.{demand-2, demand-2-short}
 use Rattle.cover.proofs.Demand3.{demand-3, only-asked}
 use Rattle.cover.proofs.Merging.{merging-holds}
 use Rattle.cover.proofs.Rooms.{rooms-kept}
-use Rattle.cover.proofs.Determined.{cover-determined}
+use Rattle.cover.proofs.Determined.{cover-determined, both-covers}
 use Rattle.cover.proofs.entry.keekaboor_cover
+use Rattle.cover.proofs.entry.keekaboor_cover_plain
 use Rattle.job.specs.JobText.{jobText, IsJob, textRoom}
 use Rattle.job.specs.Reading.{ReadJob}
 use Rattle.job.specs.Writing.{WriteJob}
@@ -77,6 +78,16 @@ cover κs a pre r v g = given-demands g
 -- and has one outcome.
 pub cover-once : Determined keekaboor_cover.Kinds.ps keekaboor_cover.Kinds.r keekaboor_cover.Reads.Pre keekaboor_cover.Reads.Post
 cover-once = cover-determined
+
+-- `keekaboor_cover_plain` meets them too, and gives what `keekaboor_cover` gives: the same outcome, and the same bytes in both rooms.
+pub cover-plain : Always keekaboor_cover_plain.Kinds.ps keekaboor_cover_plain.Kinds.r keekaboor_cover_plain.Reads.Pre keekaboor_cover_plain.Reads.Post
+    (λ κs a r v.
+    Demands (a .0) (a .1 .0) (a .1 .1 .0) (now (a .1 .1 .1 .0)) (now (a .1 .1 .1 .1 .0)) (now (a .1 .1 .1 .1 .1 .0))
+    (record { outcome = r; flashesAfter = v .1 .1 .1 .1 .0; marksAfter = v .1 .1 .1 .1 .1 .0 }))
+cover-plain κs a pre r v g = given-demands g
+
+pub both-covers-alike : Alike keekaboor_cover.Kinds.ps keekaboor_cover.Kinds.r keekaboor_cover.Reads.Pre keekaboor_cover.Reads.Post keekaboor_cover_plain.Reads.Pre keekaboor_cover_plain.Reads.Post
+both-covers-alike = both-covers
 
 -- Whatever minimal bracket is chosen at each step, merging an area's starting set ends in the final set that its flashes stand on, after as many reductions.
 pub any-order : Merging

@@ -22,3 +22,12 @@ abbrev pub Always : {n : ℕ} (ps : List (PK n)) (r : RK n) → In n ps → Out 
 Always {n} ps r Pre Post P =
     (κs : Lfts n) (args : Dens κs ps) → Pre κs args → (x : resT r κs .Denot) (v : Lasts (endedOf n ps r) κs args)
     → Post κs args x (atExit (endedOf n ps r) κs args v) → P κs args x v
+
+-- two functions of the same kinds do the same: on arguments that both may be called with, outcomes that meet their contracts are equal
+abbrev pub Alike : {n : ℕ} (ps : List (PK n)) (r : RK n) → In n ps → Out n ps r → In n ps → Out n ps r → Type 0
+Alike {n} ps r Pre Post Pre′ Post′ =
+    (κs : Lfts n) (args : Dens κs ps) → Pre κs args → Pre′ κs args
+    → (x y : resT r κs .Denot) (v w : Lasts (endedOf n ps r) κs args)
+    → Post κs args x (atExit (endedOf n ps r) κs args v)
+    → Post′ κs args y (atExit (endedOf n ps r) κs args w)
+    → (x ≡ y) × (v ≡ w)

@@ -8,7 +8,7 @@ use native.Mathlib.Omega.{arith}
 use native.Mathlib.Numerals.{add-one}
 use lib.ListN.{length, take, drop, set, getD, length-append, length-drop, length-take, take-append-drop}
 use lib.Seq.{getD-append-add, getD-drop, drop-cons, drop-drop, length-take-le, set-split, drop-at, take-at, take-take}
-use Rattle.grid.specs.Rooms.{written, Written, Kept}
+use Rattle.grid.specs.Rooms.{written, Written, recordIn, Kept}
 
 open-written : (room : List ℕ) (spot : ℕ) (bytes : List ℕ) → written room spot bytes ≡ take spot room ++ (bytes ++ drop (spot + length bytes) room)
 unfolding written
@@ -138,3 +138,9 @@ kept room bytes n size e h = record {
       ∙ getD-drop (length bytes) room (i - length bytes) 0
       ∙ ap (λ j. getD room j 0) (sym k);
 }
+
+-- a record further on is found as if the first were not there
+pub record-later : (size : ℕ) (block rest : List ℕ) (k : ℕ) → drop size (block ++ rest) ≡ rest → recordIn size (block ++ rest) (suc k) ≡ recordIn size rest k
+record-later size block rest k e =
+    let n : suc k * size ≡ size + k * size = omega arith in
+    ap (λ m. take size (drop m (block ++ rest))) n ∙ ap (take size) (sym (drop-drop (k * size) size (block ++ rest)) ∙ ap (drop (k * size)) e)

@@ -1,5 +1,5 @@
 -- Document 01's limits and record sizes, each once ('The grid and its numbers'). A room is as many records as a list can have, so it is a product.
-use Prim.Native.Nat.{ℕ, _+_, _*_}
+use Prim.Native.Nat.{ℕ, _+_, _*_, _/_}
 
 -- "Width and height are 1 to 64."
 abbrev pub side : ℕ
@@ -20,12 +20,20 @@ flashRecord = 4
 abbrev pub markRecord : ℕ
 markRecord = 2
 
+-- a bracket that was reduced, in a room lent for it: its left line, its right line
+abbrev pub bracketRecord : ℕ
+bracketRecord = 2
+
 -- "at least 256 bytes for flashes, 128 for marks, 4,096 for a raster that is read in": "64 records always suffice"
 abbrev pub flashRoom : ℕ
 flashRoom = side * flashRecord
 
 abbrev pub markRoom : ℕ
 markRoom = side * markRecord
+
+-- each reduction takes one interval away, and this many intervals run between the lines
+abbrev pub bracketRoom : ℕ
+bracketRoom = side * lines / 2 * bracketRecord
 
 abbrev pub rasterRoom : ℕ
 rasterRoom = side * side

@@ -9,9 +9,13 @@ pub const FLASH_RECORD: usize = 4;
 
 pub const MARK_RECORD: usize = 2;
 
+pub const BRACKET_RECORD: usize = 2;
+
 pub const FLASH_ROOM: usize = SIDE * FLASH_RECORD;
 
 pub const MARK_ROOM: usize = SIDE * MARK_RECORD;
+
+pub const BRACKET_ROOM: usize = SIDE * LINES / 2 * BRACKET_RECORD;
 
 pub const RASTER_ROOM: usize = SIDE * SIDE;
 

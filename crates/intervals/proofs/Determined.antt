@@ -19,7 +19,11 @@ use Rattle.intervals.proofs.bracket.bracket_from
 use Rattle.intervals.proofs.bracket.bracket
 use Rattle.intervals.proofs.reduce.furthest
 use Rattle.intervals.proofs.reduce.reduce
+use Rattle.intervals.proofs.final_set.note_bracket
 use Rattle.intervals.proofs.final_set.final_set
+use Rattle.intervals.proofs.final_set.finish
+use Rattle.intervals.proofs.final_set.final_copy
+use Rattle.intervals.proofs.sweep.final_set_swept
 
 pub interval-at-determined : Determined interval_at.Kinds.ps interval_at.Kinds.r interval_at.Reads.Pre interval_at.Reads.Post
 interval-at-determined κs a pre x y v w p q = (p ∙ sym q, refl)
@@ -72,5 +76,27 @@ furthest-determined κs a pre x y v w p q = (p ∙ sym q, refl)
 pub reduce-determined : Determined reduce.Kinds.ps reduce.Kinds.r reduce.Reads.Pre reduce.Reads.Post
 reduce-determined κs a pre x y v w p q = (refl, λ i. ((p ∙ sym q) i, v .1))
 
+pub note-bracket-determined : Determined note_bracket.Kinds.ps note_bracket.Kinds.r note_bracket.Reads.Pre note_bracket.Reads.Post
+note-bracket-determined κs a pre x y v w p q = (refl, λ i. ((p ∙ sym q) i, v .1))
+
+-- the three final sets: the set, the count, and every byte of the room
 pub final-set-determined : Determined final_set.Kinds.ps final_set.Kinds.r final_set.Reads.Pre final_set.Reads.Post
-final-set-determined κs a pre x y v w p q = (refl, λ i. ((p ∙ sym q) i, v .1))
+final-set-determined κs a pre x y v w p q =
+    let s = p .set ∙ sym (q .set) in
+    let r = p .noted ∙ sym (q .noted) in
+    (p .counted ∙ sym (q .counted), λ i. (s i, (tt, (r i, tt))))
+
+pub final-set-swept-determined : Determined final_set_swept.Kinds.ps final_set_swept.Kinds.r final_set_swept.Reads.Pre final_set_swept.Reads.Post
+final-set-swept-determined κs a pre x y v w p q =
+    let s = p .set ∙ sym (q .set) in
+    let r = p .noted ∙ sym (q .noted) in
+    (p .counted ∙ sym (q .counted), λ i. (s i, (tt, (r i, tt))))
+
+pub finish-determined : Determined finish.Kinds.ps finish.Kinds.r finish.Reads.Pre finish.Reads.Post
+finish-determined κs a pre x y v w p q =
+    let s = p .set ∙ sym (q .set) in
+    let r = p .noted ∙ sym (q .noted) in
+    (p .counted ∙ sym (q .counted), λ i. (s i, (tt, (r i, (tt, tt)))))
+
+pub final-copy-determined : Determined final_copy.Kinds.ps final_copy.Kinds.r final_copy.Reads.Pre final_copy.Reads.Post
+final-copy-determined κs a pre x y v w p q = (refl, λ i. (tt, ((p ∙ sym q) i, v .1 .1)))

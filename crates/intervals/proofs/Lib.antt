@@ -3,6 +3,12 @@ pub mod CellOrder
 pub mod RowCounts
 pub mod ReduceRows
 pub mod LeftmostAt
+pub mod ReduceTurns
 pub mod TopLines
-pub mod NextSteps
+pub mod KeptTops
+pub mod SweepSteps
+pub mod SweepSearch
+pub mod SetSizes
+pub mod FinishSteps
+pub mod SameBrackets
 pub mod Determined

@@ -20,12 +20,9 @@ use Rattle.grid.specs.Lines.{line}
 use Rattle.grid.specs.declared.lines.Line.{Line}
 use Rattle.intervals.specs.declared.dependent.Tops.{Tops}
 use Rattle.intervals.specs.Reach.{reach}
-use Rattle.intervals.specs.Tops.{endsBeyond, Greatest, WithRow}
+use Rattle.intervals.specs.Tops.{tops, endsBeyond, Greatest, WithRow}
 use Rattle.intervals.proofs.ReduceRows.{reach-top}
 use Rattle.intervals.proofs.RowCounts.{one-place}
-
-abbrev pub tops : ℕ → ℕ → Tops
-tops g s = record { greater = line g; lesser = line s }
 
 abbrev endsTest : ℕ → ℕ → ℕ → Span → Bool
 endsTest l b x i = eqb (i .left) l && ltb x (i .right) && leb (i .right) b
@@ -44,7 +41,7 @@ lines-end l b x i e u v =
     (and-both (eqb (i .left) l) (ltb x (i .right)) (eq-eqb (i .left) l e) (lt-ltb x (i .right) u))
     (le-leb (i .right) b v)
 
-bit-small : (b : Bool) → bit b ≤ 1
+pub bit-small : (b : Bool) → bit b ≤ 1
 bit-small true = omega arith
 bit-small false = omega arith
 

@@ -58,8 +58,3 @@ without n i s = changed n i false s
 abbrev pub foundOf : Option Span → Found
 foundOf none = Nothing
 foundOf (some i) = At (intervalOf i)
-
--- whether it was
-abbrev pub isFound : Option Span → Bool
-isFound none = false
-isFound (some i) = true

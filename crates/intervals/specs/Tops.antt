@@ -6,7 +6,11 @@ use Prim.Native.Nat.{ℕ, _+_, _≤_, _<_}
 use lib.Dec.{ltb, leb, eqb}
 use Rattle.lists.specs.Lists.{count}
 use Rattle.method.specs.Intervals.{Interval as Span}
+use Rattle.grid.specs.Lines.{line}
 use Rattle.intervals.specs.declared.dependent.Tops.{Tops}
+
+abbrev pub tops : ℕ → ℕ → Tops
+tops g m = record { greater = line g; lesser = line m }
 
 -- how many intervals of s from line l end beyond line x and not beyond line b
 unfoldable pub endsBeyond : List Span → ℕ → ℕ → ℕ → ℕ

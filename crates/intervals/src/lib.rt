@@ -4,6 +4,7 @@ pub mod column;
 pub mod dependent;
 pub mod final_set;
 pub mod reduce;
+pub mod sweep;
 pub mod table;
 
 use grid::limits::LINES;

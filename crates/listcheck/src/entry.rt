@@ -27,6 +27,7 @@ use grid::lines::Row;
 use grid::raster::Job;
 use grid::raster::Place;
 use grid::raster::Size;
+use intervals::final_set::Search;
 
 #[repr(C)]
 pub struct Checked {
@@ -110,7 +111,7 @@ fn weigh(size: Size, raster: &[u8], count: usize, mark_room: &mut [u8]) -> Check
         size,
         allowance: limits::ALLOWANCE_LIMIT,
     };
-    let least = cover_area(job, raster, &mut flash_room, mark_room);
+    let least = cover_area(job, raster, &mut flash_room, mark_room, Search::Swept);
     Checked {
         answer: answers::DONE,
         place_x: 0,

@@ -26,6 +26,11 @@ counted c =
     let a = c .before .before .before in
     c .size2 .ensures ∙ ap (λ n. length (setOf n (a .start-area .last .1 .1 .1 .0))) (ap number (c .before .last-line .ensures))
 
+mark-area-requires : tie.Need-mark-area-requires
+mark-area-requires c κs =
+    let a = c .before .before .before .before .before .before .before .before .before in
+    (start a .pre .0, (a .start-area .ensures .0, start a .pre .1 .2))
+
 returns : tie.Need-returns
 returns c =
     let m = c .before .before .before in
@@ -42,6 +47,11 @@ write-flashes-requires c κs =
     let n = s .pre .0 .narrow in
     let q = a .start-area .ensures .1 in
     (s .pre .0, (work-tabled _ _ _ n q, work-short _ _ _ n q, s .pre .1 .1))
+
+mark-area-requires-2 : tie.Need-mark-area-requires-2
+mark-area-requires-2 c κs =
+    let a = c .before .before .before .before .before .before .before .before .before .before .before .before .before in
+    (start a .pre .0, (a .start-area .ensures .0, start a .pre .1 .2))
 
 copper-number-requires : tie.Need-copper-number-requires
 copper-number-requires c κs = start (c .before .before .before .before .before .before .before .before .before .before .before .before .before .before .before .before) .pre .0
@@ -66,12 +76,12 @@ cover-area-spec =
     (λ c κs. search needs)
     size-requires
     (λ c. search needs)
-    (λ c κs. search needs)
+    mark-area-requires
     (λ c κs. search needs)
     (λ c. search needs)
     returns
     write-flashes-requires
-    (λ c κs. search needs)
+    mark-area-requires-2
     copper-number-requires
     (λ c κs. search needs)
     (λ c. search needs)

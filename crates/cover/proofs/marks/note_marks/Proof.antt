@@ -12,13 +12,13 @@ use Rattle.cover.proofs.marks.note_marks.Statement.{statement}
 use Rattle.cover.proofs.marks.note_marks.Tie as tie
 
 abbrev Inv-loop : tie.InvT-loop
-Inv-loop size raster set₀ work₀ rows₀ set work rows =
+Inv-loop size raster set₀ work₀ rows₀ search set work rows =
     Tabled (size .width) set × (length rows ≡ length rows₀)
     × (noted (areaIn size raster) (size .height) (marked (size .width) (setOf (size .width) set₀)) rows₀
     ≡ noted (areaIn size raster) (size .height) (marked (size .width) (setOf (size .width) set)) rows)
 
 abbrev μ-loop : tie.MeasureT-loop
-μ-loop size raster set₀ work₀ rows₀ set work rows = length (setOf (size .width) set)
+μ-loop size raster set₀ work₀ rows₀ search set work rows = length (setOf (size .width) set)
 
 loop-holds : tie.Need-loop-holds Inv-loop μ-loop
 loop-holds c = (c .before .before .pre .1 .0, refl, refl)

@@ -20,9 +20,9 @@ use Rattle.method.proofs.Minimal.{dependent-proper, dependent-twice, dependent-
 use Rattle.grid.specs.Lines.{spanOf}
 use Rattle.intervals.specs.declared.dependent.Tops.{Tops}
 use Rattle.intervals.specs.Table.{setOf}
-use Rattle.intervals.specs.Tops.{endsBeyond, Greatest, WithRow}
+use Rattle.intervals.specs.Tops.{tops, endsBeyond, Greatest, WithRow}
 use Rattle.intervals.proofs.TableLaws.{set-listed}
-use Rattle.intervals.proofs.TopLines.{tops, ends-box, no-lines, greatest-same}
+use Rattle.intervals.proofs.TopLines.{ends-box, no-lines, greatest-same}
 use Rattle.intervals.proofs.dependent.dependent.Statement.{statement}
 use Rattle.intervals.proofs.dependent.dependent.Tie as tie
 

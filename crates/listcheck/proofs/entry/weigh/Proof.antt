@@ -7,8 +7,8 @@ use Rattle.listcheck.proofs.Weighed.{least-count, weighed}
 use Rattle.listcheck.proofs.entry.weigh.Statement.{statement}
 use Rattle.listcheck.proofs.entry.weigh.Tie as tie
 
-sub-t14 : tie.Need-sub-t14
-sub-t14 c =
+sub-t15 : tie.Need-sub-t15
+sub-t15 c =
     let v = c .before .before .before .before in
     let s = v .before .before .before .before .before in
     omega (arith, least-count _ _ _ (s .pre .0 .narrow) (replicate flashRoom 0) (s .args .mark-room .now) (v .cover-area .ensures), s .pre .1 .0)
@@ -21,4 +21,4 @@ returns c =
 
 pub weigh-spec : {M : Type 1} → statement M
 weigh-spec =
-    tie.close (tie.spec (λ c. search needs) (λ c κs. search needs) sub-t14 (λ c. search needs) returns)
+    tie.close (tie.spec (λ c. search needs) (λ c κs. search needs) sub-t15 (λ c. search needs) returns)

@@ -1,4 +1,4 @@
--- `keekaboor_cover` meets its contract: the checks in document 01's order, then the work.
+-- `cover_checked` meets its contract: the checks in document 01's order, then the work.
 use mathlib.Core.Path.{sym, ap, _∙_}
 use borrow.Author.Needs.{needs}
 use lib.ListN.{length}
@@ -7,8 +7,8 @@ use Rattle.grid.specs.declared.answers.Answer.{Answer}
 use Rattle.grid.proofs.Chain.{chain-passed}
 use Rattle.cover.proofs.Checks.{Passed, sizes-passed}
 use Rattle.cover.proofs.Refusals.{gives-first, gives-second, gives-worked}
-use Rattle.cover.proofs.entry.keekaboor_cover.Statement.{statement}
-use Rattle.cover.proofs.entry.keekaboor_cover.Tie as tie
+use Rattle.cover.proofs.entry.cover_checked.Statement.{statement}
+use Rattle.cover.proofs.entry.cover_checked.Tie as tie
 
 -- the first checks are passed
 passed : (c : tie.Else1) → let g = c .before .before .before .before .before .before .args in
@@ -48,8 +48,8 @@ returns-3 c =
     let e = r .before in
     gives-worked _ _ _ _ _ _ (e .before .before .sizes-checked .ensures) (e .if1 .left) (r .raster-checked .ensures) (t .if2 .left) (w .cover-area .ensures)
 
-pub keekaboor-cover-spec : {M : Type 1} → statement M
-keekaboor-cover-spec =
+pub cover-checked-spec : {M : Type 1} → statement M
+cover-checked-spec =
     tie.close
     (tie.spec
     (λ c κs. search needs)

@@ -1,5 +1,5 @@
 /*
- * Keekaboor: copper areas in the fewest flashes, with evidence, and jobs as text.
+ * Keekaboor: copper areas in the fewest flashes, with evidence; jobs as text, lists from outside, Gerber files.
  *
  * A copper area is a set of unit squares in a grid of `width` columns and `height` rows, each 1 to 64.
  * Columns count from 0 at the left, rows from 0 at the bottom. A raster is width times height bytes,
@@ -56,7 +56,8 @@ enum {
     KEEKABOOR_MARK_ROOM = 128,     /* bytes lent for marks, at least: 64 records of two bytes */
     KEEKABOOR_RASTER_ROOM = 4096,  /* bytes lent for a raster that is read in, at least */
     KEEKABOOR_TEXT_ROOM = 4613,    /* bytes lent for a job written out, at least; also the longest text of a job */
-    KEEKABOOR_LIST_LIMIT = 1024    /* the most flashes of a list that is checked */
+    KEEKABOOR_LIST_LIMIT = 1024,   /* the most flashes of a list that is checked */
+    KEEKABOOR_FILE_ROOM = 8192     /* bytes lent for a Gerber file, at least */
 };
 
 /* The answers, and the place that goes with each. A place not named is 0, 0. */
@@ -74,8 +75,12 @@ enum {
     KEEKABOOR_TEXT_LONG = 10,      /* the text has over 4,613 bytes */
     KEEKABOOR_TEXT_LINE = 11,      /* a line of text is not as ruled; place: its number, counted from 1, and 0 */
     KEEKABOOR_RASTER_ROOM_SHORT = 12,
+    KEEKABOOR_PITCH = 13,          /* the pitch is odd or not 2 to 1,000,000 */
+    KEEKABOOR_CENTRE = 14,         /* a centre coordinate has more than ten digits */
+    KEEKABOOR_FILE_ROOM_SHORT = 15,
     KEEKABOOR_LIST_LINE = 16,      /* a line of a list is not as ruled; place: its number, counted from 1, and 0 */
-    KEEKABOOR_LIST_LONG = 17       /* a list has over 1,024 flashes */
+    KEEKABOOR_LIST_LONG = 17,      /* a list has over 1,024 flashes */
+    KEEKABOOR_FILE_LINE = 30       /* a line of a Gerber file is not as ruled; place: its number, counted from 1, and 0 */
 };
 
 /* What keekaboor_cover returns. */
@@ -180,6 +185,50 @@ struct keekaboor_check_outcome keekaboor_check(uint64_t width, uint64_t height, 
                                                const uint8_t *raster, size_t raster_len,
                                                const uint8_t *list, size_t list_len,
                                                uint8_t *mark_room, size_t mark_len);
+
+/* What keekaboor_write_gerber returns: the cover's numbers and the file's length. */
+struct keekaboor_gerber_outcome {
+    uint64_t answer;
+    uint64_t place_x, place_y;
+    uint64_t flashes, marks, copper, flashed; /* as keekaboor_cover returns them */
+    uint64_t length;                          /* how many bytes of the file were written */
+};
+
+/*
+ * Covers an area and writes the cover as a Gerber file: millimetres, format 4.6, a rectangular aperture for each distinct
+ * size of a flash, numbered from D10 in order of first use, and each flash at the centre of its rectangle. The pitch of the
+ * grid is an even number of nanometres, 2 to 1,000,000; x and y, in nanometres, are the bottom left corner of square (0, 0),
+ * on either side of panel zero. On success flash_room and mark_room are as keekaboor_cover leaves them, and file_room begins
+ * with the file, of `length` bytes and without a closing 0.
+ *
+ * Refusals, the first that applies: those of keekaboor_cover (9 writes its marks), 13, 14, 15. With 13, 14 and 15 the cover's
+ * rooms stay as they were too.
+ */
+struct keekaboor_gerber_outcome keekaboor_write_gerber(uint64_t width, uint64_t height, uint64_t allowance,
+                                                       const uint8_t *raster, size_t raster_len,
+                                                       uint8_t *flash_room, size_t flash_len,
+                                                       uint8_t *mark_room, size_t mark_len,
+                                                       uint64_t pitch, int64_t x, int64_t y,
+                                                       uint8_t *file_room, size_t file_len);
+
+/* What keekaboor_read_gerber returns. */
+struct keekaboor_gerber_read_outcome {
+    uint64_t answer;
+    uint64_t place_x, place_y;
+    uint64_t flashes; /* how many flash records were written */
+};
+
+/*
+ * Reads a Gerber file back that was written with this pitch and this origin: on success flash_room begins with the records
+ * of its flashes, in the file's order, which may be any. A file is accepted only in the form that keekaboor_write_gerber
+ * gives to its flashes, 64 of them at most, each on the grid of 64 by 64 squares; that they cover an area is not asked.
+ *
+ * Refusals, the first that applies: 3, 13, 30. Each line is judged by those before it. A missing `M02*` is told under the
+ * number that its line would have, text after it and a last line without line feed under their own.
+ */
+struct keekaboor_gerber_read_outcome keekaboor_read_gerber(const uint8_t *text, size_t text_len,
+                                                           uint64_t pitch, int64_t x, int64_t y,
+                                                           uint8_t *flash_room, size_t flash_len);
 
 #ifdef __cplusplus
 }

@@ -51,12 +51,37 @@ pub struct CheckOutcome {
     pub marks: u64,
 }
 
+/// What `keekaboor_write_gerber` returns: the cover's numbers and the file's length.
+#[repr(C)]
+#[derive(Clone, Copy, Debug, Default, PartialEq, Eq)]
+pub struct GerberOutcome {
+    pub answer: u64,
+    pub place_x: u64,
+    pub place_y: u64,
+    pub flashes: u64,
+    pub marks: u64,
+    pub copper: u64,
+    pub flashed: u64,
+    pub length: u64,
+}
+
+/// What `keekaboor_read_gerber` returns.
+#[repr(C)]
+#[derive(Clone, Copy, Debug, Default, PartialEq, Eq)]
+pub struct GerberReadOutcome {
+    pub answer: u64,
+    pub place_x: u64,
+    pub place_y: u64,
+    pub flashes: u64,
+}
+
 #[cfg(feature = "linked")]
 pub use linked::*;
 
 #[cfg(feature = "linked")]
 mod linked {
-    use super::{CheckOutcome, Outcome, ReadOutcome, WriteOutcome};
+    use super::{CheckOutcome, GerberOutcome, GerberReadOutcome, Outcome, ReadOutcome, WriteOutcome};
+    use crate::gerber::Frame;
     use std::time::Duration;
 
     #[cfg(all(target_arch = "x86_64", not(feature = "far")))]
@@ -94,8 +119,9 @@ mod linked {
         flash_room: &mut [u8],
         mark_room: &mut [u8],
     ) -> Outcome {
-        let mut lent = [Lent::new(raster), Lent::new(flash_room), Lent::new(mark_room)];
-        let request = Request { function: Function::Cover(engine), numbers: [width, height, allowance], times: 1 };
+        let mut lent = lend(&[raster, flash_room, mark_room]);
+        let request =
+            Request { function: Function::Cover(engine), numbers: padded(&[width, height, allowance]), times: 1 };
         let reply = call(&request, &mut lent);
         lent[0].unchanged("the raster", raster);
         lent[1].copy_back("the flash room", flash_room);
@@ -104,8 +130,8 @@ mod linked {
     }
 
     pub fn read_job(text: &[u8], raster_room: &mut [u8]) -> ReadOutcome {
-        let mut lent = [Lent::new(text), Lent::new(raster_room), Lent::new(&[])];
-        let request = Request { function: Function::ReadJob, numbers: [0; 3], times: 1 };
+        let mut lent = lend(&[text, raster_room]);
+        let request = Request { function: Function::ReadJob, numbers: padded(&[]), times: 1 };
         let reply = call(&request, &mut lent);
         lent[0].unchanged("the text", text);
         lent[1].copy_back("the raster room", raster_room);
@@ -113,8 +139,8 @@ mod linked {
     }
 
     pub fn write_job((width, height, allowance): (u64, u64, u64), raster: &[u8], text_room: &mut [u8]) -> WriteOutcome {
-        let mut lent = [Lent::new(raster), Lent::new(text_room), Lent::new(&[])];
-        let request = Request { function: Function::WriteJob, numbers: [width, height, allowance], times: 1 };
+        let mut lent = lend(&[raster, text_room]);
+        let request = Request { function: Function::WriteJob, numbers: padded(&[width, height, allowance]), times: 1 };
         let reply = call(&request, &mut lent);
         lent[0].unchanged("the raster", raster);
         lent[1].copy_back("the text room", text_room);
@@ -127,8 +153,8 @@ mod linked {
         list: &[u8],
         mark_room: &mut [u8],
     ) -> CheckOutcome {
-        let mut lent = [Lent::new(raster), Lent::new(list), Lent::new(mark_room)];
-        let request = Request { function: Function::Check, numbers: [width, height, allowance], times: 1 };
+        let mut lent = lend(&[raster, list, mark_room]);
+        let request = Request { function: Function::Check, numbers: padded(&[width, height, allowance]), times: 1 };
         let reply = call(&request, &mut lent);
         lent[0].unchanged("the raster", raster);
         lent[1].unchanged("the list", list);
@@ -136,24 +162,52 @@ mod linked {
         reply.check_outcome()
     }
 
+    /// A cover written as a Gerber file.
+    pub fn write_gerber(
+        (width, height, allowance): (u64, u64, u64),
+        raster: &[u8],
+        (flash_room, mark_room): (&mut [u8], &mut [u8]),
+        frame: Frame,
+        file_room: &mut [u8],
+    ) -> GerberOutcome {
+        let mut lent = lend(&[raster, flash_room, mark_room, file_room]);
+        let numbers = padded(&[width, height, allowance, frame.pitch, frame.x as u64, frame.y as u64]);
+        let reply = call(&Request { function: Function::WriteGerber, numbers, times: 1 }, &mut lent);
+        lent[0].unchanged("the raster", raster);
+        lent[1].copy_back("the flash room", flash_room);
+        lent[2].copy_back("the mark room", mark_room);
+        lent[3].copy_back("the file room", file_room);
+        reply.gerber_outcome()
+    }
+
+    /// A Gerber file read back.
+    pub fn read_gerber(text: &[u8], frame: Frame, flash_room: &mut [u8]) -> GerberReadOutcome {
+        let mut lent = lend(&[text, flash_room]);
+        let numbers = padded(&[0, 0, 0, frame.pitch, frame.x as u64, frame.y as u64]);
+        let reply = call(&Request { function: Function::ReadGerber, numbers, times: 1 }, &mut lent);
+        lent[0].unchanged("the file", text);
+        lent[1].copy_back("the flash room", flash_room);
+        reply.gerber_read_outcome()
+    }
+
     /// How long so many calls of a cover take, one after the other, in the same rooms.
     pub fn time_cover(engine: Engine, times: u64, numbers: (u64, u64, u64), raster: &[u8]) -> Duration {
-        let mut lent = [Lent::new(raster), Lent::new(&[0; 256]), Lent::new(&[0; 128])];
-        let numbers = [numbers.0, numbers.1, numbers.2];
+        let mut lent = lend(&[raster, &[0; 256], &[0; 128]]);
+        let numbers = padded(&[numbers.0, numbers.1, numbers.2]);
         call(&Request { function: Function::Cover(engine), numbers, times }, &mut lent).time
     }
 
     /// How long so many calls of the reader take, one after the other, in the same room.
     pub fn time_read_job(times: u64, text: &[u8]) -> Duration {
-        let mut lent = [Lent::new(text), Lent::new(&[0; 4096]), Lent::new(&[])];
-        call(&Request { function: Function::ReadJob, numbers: [0; 3], times }, &mut lent).time
+        let mut lent = lend(&[text, &[0; 4096]]);
+        call(&Request { function: Function::ReadJob, numbers: padded(&[]), times }, &mut lent).time
     }
 
     /// How long so many final sets of an area's starting set take, by themselves; and how many intervals they have.
     pub fn time_final_sets(plain: bool, times: u64, (width, height): (u64, u64), raster: &[u8]) -> (Duration, u64) {
-        let mut lent = [Lent::new(raster), Lent::new(&[]), Lent::new(&[])];
-        let request =
-            Request { function: Function::FinalSets { plain }, numbers: [width, height, times - 1], times: 1 };
+        let mut lent = lend(&[raster]);
+        let numbers = padded(&[width, height, times - 1]);
+        let request = Request { function: Function::FinalSets { plain }, numbers, times: 1 };
         let reply = call(&request, &mut lent);
         (reply.time, reply.numbers[0])
     }
@@ -164,17 +218,28 @@ mod linked {
         ReadJob,
         WriteJob,
         Check,
+        WriteGerber,
+        ReadGerber,
         FinalSets { plain: bool },
     }
 
+    /// How many numbers and how many buffers the call with the most of them takes.
+    pub(super) const ARGUMENTS: usize = 6;
+    pub(super) const BUFFERS: usize = 4;
+
     pub(super) struct Request {
         pub function: Function,
-        pub numbers: [u64; 3],
+        pub numbers: [u64; ARGUMENTS],
         pub times: u64,
     }
 
     /// How many fields the longest outcome has.
-    pub(super) const NUMBERS: usize = 7;
+    pub(super) const NUMBERS: usize = 8;
+
+    /// Numbers, and 0 behind them.
+    pub(super) fn padded<const N: usize>(numbers: &[u64]) -> [u64; N] {
+        std::array::from_fn(|i| numbers.get(i).copied().unwrap_or(0))
+    }
 
     /// An outcome's numbers in the order of its fields, and the processor's time that the calls took.
     pub(super) struct Reply {
@@ -184,7 +249,7 @@ mod linked {
 
     impl Reply {
         fn outcome(&self) -> Outcome {
-            let [answer, place_x, place_y, flashes, marks, copper, flashed] = self.numbers;
+            let [answer, place_x, place_y, flashes, marks, copper, flashed, ..] = self.numbers;
             Outcome { answer, place_x, place_y, flashes, marks, copper, flashed }
         }
 
@@ -199,8 +264,18 @@ mod linked {
         }
 
         fn check_outcome(&self) -> CheckOutcome {
-            let [answer, place_x, place_y, verdict, flashes, above, marks] = self.numbers;
+            let [answer, place_x, place_y, verdict, flashes, above, marks, ..] = self.numbers;
             CheckOutcome { answer, place_x, place_y, verdict, flashes, above, marks }
+        }
+
+        fn gerber_outcome(&self) -> GerberOutcome {
+            let [answer, place_x, place_y, flashes, marks, copper, flashed, length] = self.numbers;
+            GerberOutcome { answer, place_x, place_y, flashes, marks, copper, flashed, length }
+        }
+
+        fn gerber_read_outcome(&self) -> GerberReadOutcome {
+            let [answer, place_x, place_y, flashes, ..] = self.numbers;
+            GerberReadOutcome { answer, place_x, place_y, flashes }
         }
     }
 
@@ -213,6 +288,10 @@ mod linked {
     /// A buffer that is lent: its bytes between two rows of guard bytes.
     pub(super) struct Lent {
         pub whole: Vec<u8>,
+    }
+
+    fn lend(parts: &[&[u8]]) -> [Lent; BUFFERS] {
+        std::array::from_fn(|i| Lent::new(parts.get(i).copied().unwrap_or(&[])))
     }
 
     impl Lent {
@@ -247,8 +326,8 @@ mod linked {
 /// On x86-64 the functions are linked in.
 #[cfg(all(feature = "linked", target_arch = "x86_64", not(feature = "far")))]
 mod direct {
-    use super::linked::{Engine, Function, Lent, Reply, Request, GUARD, NUMBERS};
-    use super::{CheckOutcome, Outcome, ReadOutcome, WriteOutcome};
+    use super::linked::{padded, Engine, Function, Lent, Reply, Request, BUFFERS, GUARD, NUMBERS};
+    use super::{CheckOutcome, GerberOutcome, GerberReadOutcome, Outcome, ReadOutcome, WriteOutcome};
     use crate::clock;
 
     macro_rules! covers {
@@ -294,6 +373,31 @@ mod direct {
             mark_room: *mut u8,
             mark_len: usize,
         ) -> CheckOutcome;
+        fn keekaboor_write_gerber(
+            width: u64,
+            height: u64,
+            allowance: u64,
+            raster: *const u8,
+            raster_len: usize,
+            flash_room: *mut u8,
+            flash_len: usize,
+            mark_room: *mut u8,
+            mark_len: usize,
+            pitch: u64,
+            x: i64,
+            y: i64,
+            file_room: *mut u8,
+            file_len: usize,
+        ) -> GerberOutcome;
+        fn keekaboor_read_gerber(
+            text: *const u8,
+            text_len: usize,
+            pitch: u64,
+            x: i64,
+            y: i64,
+            flash_room: *mut u8,
+            flash_len: usize,
+        ) -> GerberReadOutcome;
         fn timed_final_sets(
             width: u64,
             height: u64,
@@ -304,13 +408,15 @@ mod direct {
         ) -> u64;
     }
 
-    pub(super) fn call(request: &Request, lent: &mut [Lent; 3]) -> Reply {
-        let len = [lent[0].len(), lent[1].len(), lent[2].len()];
-        let [a, b, c] = lent;
-        // The three are separate allocations, so they do not overlap, and each has GUARD bytes before the lent part.
-        let (a, b, c) = (a.whole[GUARD..].as_ptr(), b.whole[GUARD..].as_mut_ptr(), c.whole[GUARD..].as_mut_ptr());
-        let [x, y, z] = request.numbers;
-        let mut numbers = [0; NUMBERS];
+    pub(super) fn call(request: &Request, lent: &mut [Lent; BUFFERS]) -> Reply {
+        let len: [usize; BUFFERS] = std::array::from_fn(|i| lent[i].len());
+        let [a, b, c, d] = lent;
+        // The four are separate allocations, so they do not overlap, and each has GUARD bytes before the lent part.
+        let (a, b) = (a.whole[GUARD..].as_ptr(), b.whole[GUARD..].as_mut_ptr());
+        let (c, d) = (c.whole[GUARD..].as_mut_ptr(), d.whole[GUARD..].as_mut_ptr());
+        let [x, y, z, pitch, east, north] = request.numbers;
+        let (east, north) = (east as i64, north as i64);
+        let mut numbers: [u64; NUMBERS] = padded(&[]);
         let start = clock::now();
         for _ in 0..request.times {
             numbers = unsafe {
@@ -323,23 +429,31 @@ mod direct {
                             Engine::Plain => plain_cover,
                         };
                         let o = cover(x, y, z, a, len[0], b, len[1], c, len[2]);
-                        [o.answer, o.place_x, o.place_y, o.flashes, o.marks, o.copper, o.flashed]
+                        padded(&[o.answer, o.place_x, o.place_y, o.flashes, o.marks, o.copper, o.flashed])
                     }
                     Function::ReadJob => {
                         let o = keekaboor_read_job(a, len[0], b, len[1]);
-                        [o.answer, o.place_x, o.place_y, o.width, o.height, o.allowance, 0]
+                        padded(&[o.answer, o.place_x, o.place_y, o.width, o.height, o.allowance])
                     }
                     Function::WriteJob => {
                         let o = keekaboor_write_job(x, y, z, a, len[0], b, len[1]);
-                        [o.answer, o.place_x, o.place_y, o.length, 0, 0, 0]
+                        padded(&[o.answer, o.place_x, o.place_y, o.length])
                     }
                     Function::Check => {
                         let o = keekaboor_check(x, y, z, a, len[0], b, len[1], c, len[2]);
-                        [o.answer, o.place_x, o.place_y, o.verdict, o.flashes, o.above, o.marks]
+                        padded(&[o.answer, o.place_x, o.place_y, o.verdict, o.flashes, o.above, o.marks])
                     }
-                    Function::FinalSets { plain } => {
-                        [timed_final_sets(x, y, a, len[0], plain.into(), z), 0, 0, 0, 0, 0, 0]
+                    Function::WriteGerber => {
+                        let o = keekaboor_write_gerber(
+                            x, y, z, a, len[0], b, len[1], c, len[2], pitch, east, north, d, len[3],
+                        );
+                        [o.answer, o.place_x, o.place_y, o.flashes, o.marks, o.copper, o.flashed, o.length]
                     }
+                    Function::ReadGerber => {
+                        let o = keekaboor_read_gerber(a, len[0], pitch, east, north, b, len[1]);
+                        padded(&[o.answer, o.place_x, o.place_y, o.flashes])
+                    }
+                    Function::FinalSets { plain } => padded(&[timed_final_sets(x, y, a, len[0], plain.into(), z)]),
                 }
             };
         }
@@ -351,7 +465,7 @@ mod direct {
 /// one for each thread, spoken to over its standard input and output.
 #[cfg(all(feature = "linked", any(feature = "far", not(target_arch = "x86_64"))))]
 mod far {
-    use super::linked::{Engine, Function, Lent, Reply, Request, GUARD, NUMBERS};
+    use super::linked::{Engine, Function, Lent, Reply, Request, BUFFERS, GUARD, NUMBERS};
     use std::cell::RefCell;
     use std::io::{Read, Write};
     use std::process::{Child, Command, Stdio};
@@ -365,12 +479,14 @@ mod far {
             Function::ReadJob => 0,
             Function::WriteJob => 1,
             Function::Check => 2,
-            Function::FinalSets { plain: false } => 3,
-            Function::FinalSets { plain: true } => 4,
-            Function::Cover(Engine::Exported) => 5,
-            Function::Cover(Engine::ExportedPlain) => 6,
-            Function::Cover(Engine::Quick) => 7,
-            Function::Cover(Engine::Plain) => 8,
+            Function::WriteGerber => 3,
+            Function::ReadGerber => 4,
+            Function::FinalSets { plain: false } => 5,
+            Function::FinalSets { plain: true } => 6,
+            Function::Cover(Engine::Exported) => 7,
+            Function::Cover(Engine::ExportedPlain) => 8,
+            Function::Cover(Engine::Quick) => 9,
+            Function::Cover(Engine::Plain) => 10,
         }
     }
 
@@ -382,11 +498,12 @@ mod far {
             Far(command.spawn().expect("the far side starts"))
         }
 
-        fn call(&mut self, request: &Request, lent: &mut [Lent; 3]) -> Reply {
+        fn call(&mut self, request: &Request, lent: &mut [Lent; BUFFERS]) -> Reply {
             let mut message = Vec::new();
-            let [x, y, z] = request.numbers;
-            let sizes = [lent[0].len(), lent[1].len(), lent[2].len()].map(|len| len as u64);
-            let head = [number(request.function), request.times, x, y, z, sizes[0], sizes[1], sizes[2], GUARD as u64];
+            let mut head = vec![number(request.function), request.times];
+            head.extend(request.numbers);
+            head.extend(lent.iter().map(|part| part.len() as u64));
+            head.push(GUARD as u64);
             head.iter().for_each(|number| message.extend(number.to_le_bytes()));
             lent.iter().for_each(|part| message.extend(&part.whole));
             self.0.stdin.as_mut().unwrap().write_all(&message).expect("the far side listens");
@@ -415,7 +532,7 @@ mod far {
 
     thread_local!(static FAR: RefCell<Far> = RefCell::new(Far::start()));
 
-    pub(super) fn call(request: &Request, lent: &mut [Lent; 3]) -> Reply {
+    pub(super) fn call(request: &Request, lent: &mut [Lent; BUFFERS]) -> Reply {
         FAR.with(|far| far.borrow_mut().call(request, lent))
     }
 }

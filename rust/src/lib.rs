@@ -4,6 +4,7 @@
 pub mod areas;
 pub mod clock;
 pub mod ffi;
+pub mod gerber;
 pub mod listcheck;
 pub mod old;
 pub mod program;

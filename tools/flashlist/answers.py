@@ -2,7 +2,7 @@
 from . import ruled
 
 # What the programs take at most, as the sentences and the help name it.
-SIDE, FLASH_ROOM, MARK_ROOM, RASTER_ROOM, LONGEST, LIST = 64, 256, 128, 4096, 4613, 1024
+SIDE, FLASH_ROOM, MARK_ROOM, RASTER_ROOM, LONGEST, LIST, FILE_ROOM, PITCH = 64, 256, 128, 4096, 4613, 1024, 8192, 1000000
 
 # The answers by number; {x} and {y} are the place.
 ANSWERS = {
@@ -18,21 +18,26 @@ ANSWERS = {
     10: f"the text has over {LONGEST:,} bytes",
     11: "line {x} is not as ruled",
     12: f"the room for a raster is under {RASTER_ROOM:,} bytes",
+    13: f"the pitch is odd or not 2 to {PITCH:,} nanometres",
+    14: "a centre coordinate has more than ten digits",
+    15: f"the room for a file is under {FILE_ROOM:,} bytes",
     16: "line {x} of the list is not as ruled",
     17: f"the list has over {LIST:,} flashes",
+    30: "line {x} of the file is not as ruled",
 }
 
 # The answers that come with an area: they can be drawn.
 DRAWN = (0, 8, 9)
 
 
-# The answers of a list from outside, which a cover is never given.
-OF_LISTS = (16, 17)
+# The answers that one command alone gives.
+OF_CHECK, OF_GERBER = (16, 17), (13, 14, 15, 30)
 
 
-def table(lists=False):
-    """The answers, those of lists only where they are asked for."""
-    words = {number: words.format(x="X", y="Y") for number, words in ANSWERS.items() if lists or number not in OF_LISTS}
+def table(*own):
+    """The answers, those of one command alone only where they are asked for."""
+    others = {*OF_CHECK, *OF_GERBER} - {*own}
+    words = {number: words.format(x="X", y="Y") for number, words in ANSWERS.items() if number not in others}
     return "".join(f"  {number:>2}  {text}\n" for number, text in [(0, "done"), *words.items()])
 
 

@@ -104,7 +104,7 @@ class CheckPicture(Picture):
 
 
 def help_text():
-    return HELP + answers.table(lists=True)
+    return HELP + answers.table(*answers.OF_CHECK)
 
 
 def asked(words):

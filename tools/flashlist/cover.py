@@ -39,7 +39,8 @@ the name stands before each list.
   --                    what follows are names, also those that begin with a dash
 
 {ends.TEXT}
-Answers (2 to 5, 7 and 12 are those of the C functions and never come from here, 16 and 17 come from ./flashlist check):
+Answers (2 to 5, 7 and 12 are those of the C functions and never come from here, 13 to 17 and 30 from
+./flashlist check and ./flashlist gerber):
 """
 
 ENDING = "a picture's name ends in .svg"

@@ -1,9 +1,9 @@
 """The frame: finds the command that a call names, and ends every call with its status. A further command is a module
 beside `cover` and a name in COMMANDS."""
 
-from . import check, cover, ends, streams
+from . import check, cover, ends, gerber, streams
 
-COMMANDS = {module.NAME: module for module in (cover, check)}
+COMMANDS = {module.NAME: module for module in (cover, check, gerber)}
 DEFAULT = cover
 
 

@@ -10,6 +10,7 @@ LINES = {
     "sound": ("above the least",),
     "bad": ("line",),
     "bare": ("column", "row"),
+    "wrong": ("word",),
 }
 
 HELP = """    cover    how many flashes; the copper number (how many squares are copper); the flashed area (the

@@ -71,8 +71,22 @@ badLine = 11
 abbrev pub rasterRoomShort : ℕ
 rasterRoomShort = 12
 
+-- document 02, R-2
+abbrev pub pitchOut : ℕ
+pitchOut = 13
+
+abbrev pub centreOut : ℕ
+centreOut = 14
+
+abbrev pub fileRoomShort : ℕ
+fileRoomShort = 15
+
 abbrev pub badListLine : ℕ
 badListLine = 16
 
 abbrev pub listLong : ℕ
 listLong = 17
+
+-- document 02, R-2: reading back
+abbrev pub badFileLine : ℕ
+badFileLine = 30

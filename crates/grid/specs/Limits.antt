@@ -41,3 +41,7 @@ rasterRoom = side * side
 -- "flash lists of his own .. at most 1,024" (02, R-5)
 abbrev pub listLimit : ℕ
 listLimit = 1024
+
+-- "file room under 8,192" (02, R-2)
+abbrev pub fileRoom : ℕ
+fileRoom = 8192

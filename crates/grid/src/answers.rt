@@ -36,9 +36,17 @@ pub const BAD_LINE: u64 = 11;
 
 pub const RASTER_ROOM_SHORT: u64 = 12;
 
+pub const PITCH_OUT: u64 = 13;
+
+pub const CENTRE_OUT: u64 = 14;
+
+pub const FILE_ROOM_SHORT: u64 = 15;
+
 pub const BAD_LIST_LINE: u64 = 16;
 
 pub const LIST_LONG: u64 = 17;
+
+pub const BAD_FILE_LINE: u64 = 30;
 
 impl Answer {
     pub fn done() -> Answer

@@ -20,3 +20,5 @@ pub const BRACKET_ROOM: usize = SIDE * LINES / 2 * BRACKET_RECORD;
 pub const RASTER_ROOM: usize = SIDE * SIDE;
 
 pub const LIST_LIMIT: usize = 1024;
+
+pub const FILE_ROOM: usize = 8192;

@@ -7,7 +7,7 @@
 use std::path::{Path, PathBuf};
 use std::process::{Command, Stdio};
 
-const BY_HAND: [&str; 2] = ["hand/quick.c", "hand/plain.c"];
+const BY_HAND: [&str; 3] = ["hand/quick.c", "hand/bytes.c", "hand/plain.c"];
 const STRICT: [&str; 5] = ["-O2", "-std=c11", "-Wall", "-Wextra", "-Werror"];
 
 fn main() {

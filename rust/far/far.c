@@ -22,7 +22,7 @@ enum { NUMBERS = 8, ARGUMENTS = 6, BUFFERS = 4 };
 /* The covers, whose numbers follow. */
 static struct keekaboor_outcome (*const covers[])(uint64_t, uint64_t, uint64_t, const uint8_t *, size_t, uint8_t *, size_t,
                                                   uint8_t *, size_t) = {keekaboor_cover, keekaboor_cover_plain,
-                                                                     quick_cover, plain_cover};
+                                                                     quick_cover, bytes_cover, plain_cover};
 
 /* The crate timed, for the benchmark alone. */
 uint64_t timed_final_sets(uint64_t width, uint64_t height, const uint8_t *raster, size_t raster_len, uint64_t plain, uint64_t more);

@@ -98,6 +98,7 @@ mod linked {
         Exported,
         ExportedPlain,
         Quick,
+        Bytes,
         Plain,
     }
 
@@ -348,7 +349,7 @@ mod direct {
         };
     }
 
-    covers!(keekaboor_cover keekaboor_cover_plain quick_cover plain_cover);
+    covers!(keekaboor_cover keekaboor_cover_plain quick_cover bytes_cover plain_cover);
 
     extern "C" {
         fn keekaboor_read_job(text: *const u8, text_len: usize, raster_room: *mut u8, raster_len: usize)
@@ -426,6 +427,7 @@ mod direct {
                             Engine::Exported => keekaboor_cover,
                             Engine::ExportedPlain => keekaboor_cover_plain,
                             Engine::Quick => quick_cover,
+                            Engine::Bytes => bytes_cover,
                             Engine::Plain => plain_cover,
                         };
                         let o = cover(x, y, z, a, len[0], b, len[1], c, len[2]);
@@ -486,7 +488,8 @@ mod far {
             Function::Cover(Engine::Exported) => 7,
             Function::Cover(Engine::ExportedPlain) => 8,
             Function::Cover(Engine::Quick) => 9,
-            Function::Cover(Engine::Plain) => 10,
+            Function::Cover(Engine::Bytes) => 10,
+            Function::Cover(Engine::Plain) => 11,
         }
     }
 

@@ -1,4 +1,4 @@
-//! The covers written by hand in C, `hand/quick.c` and `hand/plain.c`, and the exported one by the plain search, byte for byte
+//! The covers written by hand in C, `hand/quick.c`, `hand/bytes.c` and `hand/plain.c`, and the exported one by the plain search, byte for byte
 //! against the exported one: what the benchmark sets side by side gives the same outcomes and writes the same rooms.
 
 use keekaboor_tests::areas::*;
@@ -26,10 +26,10 @@ fn alike(engines: &[Engine], numbers: (u64, u64, u64), raster: &[u8], rooms: (us
     wanted.0.answer
 }
 
-const ALL: [Engine; 3] = [Engine::ExportedPlain, Engine::Quick, Engine::Plain];
+const ALL: [Engine; 4] = [Engine::ExportedPlain, Engine::Quick, Engine::Bytes, Engine::Plain];
 
 /// Without the one that takes long at 64 columns.
-const QUICKER: [Engine; 2] = [Engine::ExportedPlain, Engine::Quick];
+const QUICKER: [Engine; 3] = [Engine::ExportedPlain, Engine::Quick, Engine::Bytes];
 
 fn of_area(engines: &[Engine], area: &Area, allowance: u64) -> u64 {
     alike(engines, (area.width as u64, area.height as u64, allowance), &area.raster, (FLASH_ROOM, MARK_ROOM))

@@ -1,74 +1,105 @@
--- The marks that the code notes by column are the marks by column: no column is marked twice, so none that is noted is overwritten.
--- Of each column the list of marks has the one mark that was found for it, or none. The entry point uses it.
+-- The marks that are noted by column are the marks by column: no column is marked twice, so none that is noted is overwritten.
+-- Of each column the list of marks has the one mark that was found for it, or none. `cover_area` uses it.
 use mathlib.Core.Path.{_≡_, refl, sym, ap, _∙_}
+use mathlib.Core.Bool.{true, false, cond}
 use mathlib.Core.List.{List, [], _∷_, map, List·Memᴰ·head, List·Memᴰ·tail}
 use mathlib.Core.Logic.{by-cases}
-use Prim.Native.Nat.{ℕ, _+_, _-_, _≤_, _<_}
+use Prim.Native.Nat.{ℕ, _+_, _*_, _≤_, _<_}
 use native.Mathlib.Omega.{arith}
 use native.Mathlib.Decide.{ℕ-discrete}
 use lib.Dec.{eqb}
-use lib.ListN.{length, getD, set, replicate, length-set, length-replicate, getD-replicate}
-use lib.Seq.{getD-set-same, getD-set-other}
-use borrow.Author.Tests.{eq-eqb, ne-eqb}
+use lib.ListN.{length, getD, replicate, length-replicate, getD-replicate}
+use borrow.Author.Tests.{eq-eqb, ne-eqb, le-ltb}
 use Rattle.lists.specs.Lists.{keep, upTo}
 use Rattle.lists.proofs.Members.{In}
 use Rattle.lists.proofs.Keep.{keep-none}
 use Rattle.lists.proofs.Pairs.{Pairs}
 use Rattle.lists.proofs.Ranges.{from-in, gather-same}
 use Rattle.lists.proofs.Maps.{map-gather}
+use Rattle.method.specs.Intervals.{Interval, proper}
 use Rattle.method.specs.Strike.{Marked, marked}
-use Rattle.method.proofs.Marks.{marked-once}
+use Rattle.method.proofs.Lines.{lines-proper, holds-lines}
+use Rattle.method.proofs.Listed.{listed-lines}
+use Rattle.method.proofs.Marks.{marked-holds, marked-once}
+use Rattle.grid.specs.Limits.{bracketRecord}
+use Rattle.grid.specs.Rooms.{written}
 use Rattle.grid.specs.Squares.{Area}
+use Rattle.grid.proofs.Writing.{length-written}
+use Rattle.intervals.specs.Finished.{bracketBytes}
+use Rattle.counts.specs.Spans.{spanIn}
+use Rattle.counts.specs.Marks.{notedFor}
+use Rattle.counts.proofs.SpanLaws.{written-here, written-elsewhere}
 use Rattle.cover.specs.Slices.{starting}
 use Rattle.cover.specs.Marks.{mark, byColumn, marks}
-use Rattle.cover.specs.Code.{noted, notedIn, marksNoted}
+use Rattle.cover.specs.Code.{markedIn, marksNoted}
 use Rattle.cover.proofs.Starting.{starting-listed}
 
 -- no column twice
 abbrev Distinct : List Marked → Type 0
 Distinct ms = Pairs (λ m n. m .column ≡ n .column → ⊥) ms
 
+-- each with an interval, and a record in the room
+abbrev Whole : List Marked → ℕ → Type 0
+Whole ms n = (m : Marked) → In m ms → (proper (m .interval) ≡ true) × (m .column * bracketRecord + bracketRecord ≤ n)
+
 module _ (a : Area) (h c : ℕ) where
   -- a column without a mark keeps what it has
-  unmarked : (ms : List Marked) (rows : List ℕ) → ((m : Marked) → In m ms → m .column ≡ c → ⊥) → getD (noted a h ms rows) c 0 ≡ getD rows c 0
-  unfolding noted
-  unmarked [] rows d = refl
-  unmarked (m ∷ ms) rows d =
-      unmarked ms (set rows (m .column) (mark a h m .row + 1)) (λ x k. d x (List·Memᴰ·tail k))
-      ∙ getD-set-other rows (m .column) c (mark a h m .row + 1) 0 (λ e. d m (List·Memᴰ·head refl) (sym e))
+  unmarked : (ms : List Marked) (room : List ℕ) → Whole ms (length room) → ((m : Marked) → In m ms → m .column ≡ c → ⊥) → spanIn (notedFor ms room) c ≡ spanIn room c
+  unfolding notedFor
+  unmarked [] room w d = refl
+  unmarked (m ∷ ms) room w d =
+      let fits = w m (List·Memᴰ·head refl) .1 in
+      unmarked ms (written room (m .column * bracketRecord) (bracketBytes (m .interval)))
+      (λ x k. let y = w x (List·Memᴰ·tail k) in (y .0, omega (arith, y .1, length-written room (m .column * bracketRecord) (bracketBytes (m .interval)) (omega arith))))
+      (λ x k. d x (List·Memᴰ·tail k))
+      ∙ written-elsewhere room (m .column) (m .interval) fits c (λ e. d m (List·Memᴰ·head refl) (sym e))
 
   -- what is noted of a column, and the marks of that column
-  one-mark : (m : Marked) (rows : List ℕ) → m .column ≡ c → getD rows c 0 ≡ mark a h m .row + 1 → notedIn rows c ≡ mark a h m ∷ []
-  unfolding mark
-  one-mark m rows e v =
-      let r : getD rows c 0 - 1 ≡ mark a h m .row = omega arith in
-      rw (ne-eqb (getD rows c 0) 0 (λ z. omega arith)) (λ i. record { column = sym e i; row = r i } ∷ [])
+  one-mark : (m : Marked) (room : List ℕ) → m .column ≡ c → proper (m .interval) ≡ true → spanIn room c ≡ m .interval → markedIn a h room c ≡ mark a h m ∷ []
+  one-mark m room e p v =
+      ap (λ (i : Interval). cond (proper i) (mark a h (record { column = c; interval = i }) ∷ []) []) v
+      ∙ rw p (ap (λ k. mark a h (record { column = k; interval = m .interval }) ∷ []) (sym e))
 
-  column-noted : (ms : List Marked) (rows : List ℕ) → Distinct ms → c < length rows → getD rows c 0 ≡ 0
-      → notedIn (noted a h ms rows) c ≡ map (mark a h) (keep (λ m. eqb (m .column) c) ms)
-  unfolding noted
-  column-noted [] rows d u z = rw (eq-eqb (getD rows c 0) 0 z)
-  column-noted (m ∷ ms) rows d u z =
-      let v = mark a h m .row + 1 in
+  column-noted : (ms : List Marked) (room : List ℕ) → Distinct ms → Whole ms (length room) → proper (spanIn room c) ≡ false
+      → markedIn a h (notedFor ms room) c ≡ map (mark a h) (keep (λ m. eqb (m .column) c) ms)
+  unfolding notedFor
+  column-noted [] room d w z = rw z
+  column-noted (m ∷ ms) room d w z =
+      let here = w m (List·Memᴰ·head refl) in
+      let room′ = written room (m .column * bracketRecord) (bracketBytes (m .interval)) in
+      let long = length-written room (m .column * bracketRecord) (bracketBytes (m .interval)) (omega arith) in
+      let rest : Whole ms (length room′) = λ x k. let y = w x (List·Memᴰ·tail k) in (y .0, omega (arith, y .1)) in
       by-cases (ℕ-discrete (m .column) c)
       (λ e.
       let apart : (x : Marked) → In x ms → x .column ≡ c → ⊥ = λ x k f. d .0 x k (e ∙ sym f) in
-      let here : getD (set rows (m .column) v) c 0 ≡ v = ap (λ k. getD (set rows k v) c 0) e ∙ getD-set-same rows c v 0 u in
       rw (eq-eqb (m .column) c e, keep-none (λ x. eqb (x .column) c) ms (λ x k. ne-eqb (x .column) c (apart x k)))
-      (one-mark m (noted a h ms (set rows (m .column) v)) e (unmarked ms (set rows (m .column) v) apart ∙ here)))
+      (one-mark m (notedFor ms room′) e (here .0)
+      (unmarked ms room′ rest apart ∙ sym (ap (spanIn room′) e) ∙ written-here room (m .column) (m .interval) (here .1))))
       (λ e.
       rw (ne-eqb (m .column) c e)
-      (column-noted ms (set rows (m .column) v) (d .1) (omega (arith, length-set rows (m .column) v))
-      (getD-set-other rows (m .column) c v 0 (λ f. e (sym f)) ∙ z)))
+      (column-noted ms room′ (d .1) rest (ap proper (written-elsewhere room (m .column) (m .interval) (here .1) c (λ f. e (sym f))) ∙ z)))
 
--- every column at once, from columns of zeros on
-pub marks-noted : (a : Area) (w h n : ℕ) → w ≤ n → marksNoted w (noted a h (marked w (starting a w h)) (replicate n 0)) ≡ marks a w h
+-- a room of zeros has no interval
+none-noted : (n c : ℕ) → c * bracketRecord + bracketRecord ≤ n → proper (spanIn (replicate n 0) c) ≡ false
+none-noted n c u =
+    let l = getD-replicate {A = ℕ} n (c * bracketRecord) 0 0 (omega arith) in
+    let r = getD-replicate {A = ℕ} n (c * bracketRecord + 1) 0 0 (omega arith) in
+    le-ltb (getD (replicate n 0) (c * bracketRecord) 0) (getD (replicate n 0) (c * bracketRecord + 1) 0) (omega arith)
+
+-- every column at once, from zeros on
+pub marks-noted : (a : Area) (w h n : ℕ) → w * bracketRecord ≤ n → marksNoted a h (notedFor (marked w (starting a w h)) (replicate n 0)) w ≡ marks a w h
 unfolding marksNoted marks byColumn
 marks-noted a w h n u =
     let ms = marked w (starting a w h) in
-    gather-same (notedIn (noted a h ms (replicate n 0))) (λ c. map (mark a h) (keep (λ m. eqb (m .column) c) ms)) (upTo w)
+    let listed = starting-listed a w h in
+    gather-same (markedIn a h (notedFor ms (replicate n 0))) (λ c. map (mark a h) (keep (λ m. eqb (m .column) c) ms)) (upTo w)
     (λ c k.
     let b = from-in 0 w k in
-    column-noted a h c ms (replicate n 0) (marked-once w (starting a w h) (starting-listed a w h)) (omega (arith, length-replicate {A = ℕ} n 0))
-    (getD-replicate n c 0 0 (omega arith)))
+    column-noted a h c ms (replicate n 0) (marked-once w (starting a w h) listed)
+    (λ m q.
+    let o = marked-holds w (starting a w h) listed m q in
+    let i = listed-lines w (starting a w h) listed (m .interval) (o .0) in
+    let x = holds-lines (m .column) (m .interval) (o .1) in
+    (lines-proper (m .interval) (i .0), omega (arith, length-replicate {A = ℕ} n 0)))
+    (none-noted n c (omega arith)))
     ∙ sym (map-gather (mark a h) (λ c. keep (λ m. eqb (m .column) c) ms) (upTo w))

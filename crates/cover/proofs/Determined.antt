@@ -8,10 +8,9 @@ use Rattle.cover.specs.Cover.{Given, Gives}
 use Rattle.cover.specs.declared.entry.Outcome.{Outcome}
 use Rattle.cover.proofs.slices.last_line
 use Rattle.cover.proofs.slices.copper_along
-use Rattle.cover.proofs.slices.find
+use Rattle.cover.proofs.slices.lowest_shown
 use Rattle.cover.proofs.slices.starting
 use Rattle.cover.proofs.flashes.write_flashes
-use Rattle.cover.proofs.marks.note_marks
 use Rattle.cover.proofs.marks.write_marks
 use Rattle.cover.proofs.entry.sizes_checked
 use Rattle.cover.proofs.entry.raster_checked
@@ -25,8 +24,8 @@ last-line-determined κs a pre x y v w p q = (p ∙ sym q, refl)
 pub copper-along-determined : Determined copper_along.Kinds.ps copper_along.Kinds.r copper_along.Reads.Pre copper_along.Reads.Post
 copper-along-determined κs a pre x y v w p q = (p ∙ sym q, refl)
 
-pub find-determined : Determined find.Kinds.ps find.Kinds.r find.Reads.Pre find.Reads.Post
-find-determined κs a pre x y v w p q = (p ∙ sym q, refl)
+pub lowest-shown-determined : Determined lowest_shown.Kinds.ps lowest_shown.Kinds.r lowest_shown.Reads.Pre lowest_shown.Reads.Post
+lowest-shown-determined κs a pre x y v w p q = (p ∙ sym q, refl)
 
 pub starting-determined : Determined starting.Kinds.ps starting.Kinds.r starting.Reads.Pre starting.Reads.Post
 starting-determined κs a pre x y v w p q = (refl, λ i. (tt, (tt, ((p ∙ sym q) i, tt))))
@@ -36,19 +35,12 @@ write-flashes-determined κs a pre x y v w p q =
     let c = p .count ∙ sym (q .count) in
     let o = p .area ∙ sym (q .area) in
     let f = p .room ∙ sym (q .room) in
-    (λ i. record { count = c i; area = o i }, λ i. (tt, (tt, (tt, (f i, tt)))))
-
-pub note-marks-determined : Determined note_marks.Kinds.ps note_marks.Kinds.r note_marks.Reads.Pre note_marks.Reads.Post
-note-marks-determined κs a pre x y v w p q =
-    let s = p .struck ∙ sym (q .struck) in
-    let d = p .done ∙ sym (q .done) in
-    let r = p .by-column ∙ sym (q .by-column) in
-    (refl, λ i. (tt, (tt, (s i, (d i, (r i, (tt, tt)))))))
+    (λ i. record { count = c i; area = o i }, λ i. (tt, (tt, (tt, (tt, (f i, tt))))))
 
 pub write-marks-determined : Determined write_marks.Kinds.ps write_marks.Kinds.r write_marks.Reads.Pre write_marks.Reads.Post
 write-marks-determined κs a pre x y v w p q =
     let m = p .room ∙ sym (q .room) in
-    (p .counted ∙ sym (q .counted), λ i. (tt, (tt, (tt, (m i, tt)))))
+    (p .counted ∙ sym (q .counted), λ i. (tt, (tt, (tt, (tt, (m i, tt))))))
 
 pub sizes-checked-determined : Determined sizes_checked.Kinds.ps sizes_checked.Kinds.r sizes_checked.Reads.Pre sizes_checked.Reads.Post
 sizes-checked-determined κs a pre x y v w p q = (p ∙ sym q, refl)

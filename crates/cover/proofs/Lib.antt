@@ -3,6 +3,7 @@ pub mod SliceLaws
 pub mod Shown
 pub mod Starting
 pub mod Heights
+pub mod HeightsByColumn
 pub mod Covering
 pub mod Overlap
 pub mod InOrder
@@ -23,12 +24,11 @@ pub mod RowsHold
 -- What the code's loops rest on.
 pub mod Along
 pub mod Variants
-pub mod StartingByCell
+pub mod StartingByRow
 pub mod RecordsBehind
 pub mod FlashBounds
 pub mod FlashesByCell
 pub mod NotedMarks
-pub mod MarkTurns
 pub mod ByColumn
 pub mod Refusals
 pub mod Worked

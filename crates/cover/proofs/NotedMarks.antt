@@ -4,15 +4,17 @@ use mathlib.Core.Path.{_≡_, sym, ap, _∙_}
 use mathlib.Core.List.{List, [], _∷_, _++_, append-nil}
 use Prim.Native.Nat.{ℕ, zero, suc, _+_, _-_, _≤_, _<_}
 use native.Mathlib.Omega.{arith}
-use lib.Dec.{eqb}
-use lib.ListN.{length, getD, take, length-append, length-take}
+use lib.ListN.{length, take, length-append, length-take}
 use lib.Seq.{take-nil}
-use borrow.Author.Tests.{eq-eqb, ne-eqb}
+use borrow.Author.Tests.{lt-ltb, le-ltb}
 use Rattle.lists.specs.Lists.{gather, from, upTo}
 use Rattle.lists.proofs.Truth.{bcase}
 use Rattle.lists.proofs.Ranges.{from-append, gather-append}
-use Rattle.grid.specs.Squares.{Square}
-use Rattle.cover.specs.Code.{notedIn, marksNoted}
+use Rattle.method.specs.Intervals.{proper}
+use Rattle.grid.specs.Squares.{Area, Square}
+use Rattle.counts.specs.Spans.{spanIn}
+use Rattle.cover.specs.Marks.{mark}
+use Rattle.cover.specs.Code.{markedIn, marksNoted}
 
 take-none : (n : ℕ) (xs : List Square) → n ≡ 0 → take n xs ≡ []
 take-none n xs e = rw e
@@ -22,42 +24,45 @@ take-append n [] ys = let e : n - 0 ≡ n = omega arith in rw (e, take-nil n)
 take-append zero (x ∷ xs) ys = sym (take-none (0 - suc (length xs)) ys (omega arith))
 take-append (suc n) (x ∷ xs) ys = let e : suc n - suc (length xs) ≡ n - length xs = omega arith in rw e (ap (x ∷_) (take-append n xs ys))
 
-module _ (rows : List ℕ) where
+module _ (a : Area) (h : ℕ) (noted : List ℕ) where
   -- one column: no more marks to be taken, none noted, or the one that is noted
-  pub no-more : (c most n : ℕ) → most ≤ n → take (most - n) (notedIn rows c) ≡ []
-  no-more c most n h = take-none (most - n) (notedIn rows c) (omega arith)
+  pub no-more : (c most n : ℕ) → most ≤ n → take (most - n) (markedIn a h noted c) ≡ []
+  no-more c most n l = take-none (most - n) (markedIn a h noted c) (omega arith)
 
-  pub not-noted : (c most n : ℕ) → getD rows c 0 ≡ 0 → take (most - n) (notedIn rows c) ≡ []
-  not-noted c most n e = rw (eq-eqb (getD rows c 0) 0 e) (take-nil (most - n))
+  pub not-noted : (c most n : ℕ) → spanIn noted c .right - spanIn noted c .left ≡ 0 → take (most - n) (markedIn a h noted c) ≡ []
+  not-noted c most n e = rw (le-ltb (spanIn noted c .left) (spanIn noted c .right) (omega arith)) (take-nil (most - n))
 
-  pub one-noted : (c most n : ℕ) → n < most → (getD rows c 0 ≡ 0 → ⊥) → take (most - n) (notedIn rows c) ≡ record { column = c; row = getD rows c 0 - 1 } ∷ []
-  one-noted c most n h e = let k : most - n ≡ suc (most - suc n) = omega arith in rw (ne-eqb (getD rows c 0) 0 e, k, take-nil (most - suc n))
+  pub one-noted : (c most n : ℕ) → n < most → (spanIn noted c .right - spanIn noted c .left ≡ 0 → ⊥)
+      → take (most - n) (markedIn a h noted c) ≡ mark a h (record { column = c; interval = spanIn noted c }) ∷ []
+  one-noted c most n l e =
+      let k : most - n ≡ suc (most - suc n) = omega arith in
+      rw (lt-ltb (spanIn noted c .left) (spanIn noted c .right) (omega arith), k, take-nil (most - suc n))
 
-  pub noted-none : (most : ℕ) → take most (marksNoted 0 rows) ≡ []
+  pub noted-none : (most : ℕ) → take most (marksNoted a h noted 0) ≡ []
   unfolding marksNoted
   noted-none most = take-nil most
 
-  noted-next : (c : ℕ) → marksNoted (c + 1) rows ≡ marksNoted c rows ++ notedIn rows c
+  noted-next : (c : ℕ) → marksNoted a h noted (c + 1) ≡ marksNoted a h noted c ++ markedIn a h noted c
   unfolding marksNoted
   noted-next c =
       let e : 0 + c ≡ c = omega arith in
-      ap (gather (notedIn rows)) (from-append 0 c 1)
-      ∙ gather-append (notedIn rows) (upTo c) (from (0 + c) 1)
-      ∙ ap (λ z. gather (notedIn rows) (upTo c) ++ z) (append-nil (notedIn rows (0 + c)) ∙ ap (notedIn rows) e)
+      ap (gather (markedIn a h noted)) (from-append 0 c 1)
+      ∙ gather-append (markedIn a h noted) (upTo c) (from (0 + c) 1)
+      ∙ ap (λ z. gather (markedIn a h noted) (upTo c) ++ z) (append-nil (markedIn a h noted (0 + c)) ∙ ap (markedIn a h noted) e)
 
   -- one column more, where n are taken
-  pub taken-next : (c most n : ℕ) → n ≡ length (take most (marksNoted c rows))
-      → take most (marksNoted (c + 1) rows) ≡ take most (marksNoted c rows) ++ take (most - n) (notedIn rows c)
+  pub taken-next : (c most n : ℕ) → n ≡ length (take most (marksNoted a h noted c))
+      → take most (marksNoted a h noted (c + 1)) ≡ take most (marksNoted a h noted c) ++ take (most - n) (markedIn a h noted c)
   taken-next c most n e =
-      let f : most - length (marksNoted c rows) ≡ most - n = omega (arith, length-take most (marksNoted c rows)) in
+      let f : most - length (marksNoted a h noted c) ≡ most - n = omega (arith, length-take most (marksNoted a h noted c)) in
       ap (take most) (noted-next c)
-      ∙ take-append most (marksNoted c rows) (notedIn rows c)
-      ∙ ap (λ k. take most (marksNoted c rows) ++ take k (notedIn rows c)) f
+      ∙ take-append most (marksNoted a h noted c) (markedIn a h noted c)
+      ∙ ap (λ k. take most (marksNoted a h noted c) ++ take k (markedIn a h noted c)) f
 
-  one-column : (c : ℕ) → length (notedIn rows c) ≤ 1
-  one-column c = bcase (eqb (getD rows c 0) 0) (λ e. rw e (omega arith)) (λ e. rw e (omega arith))
+  one-column : (c : ℕ) → length (markedIn a h noted c) ≤ 1
+  one-column c = bcase (proper (spanIn noted c)) (λ e. rw e (omega arith)) (λ e. rw e (omega arith))
 
-  noted-few : (c : ℕ) → length (marksNoted c rows) ≤ c
+  noted-few : (c : ℕ) → length (marksNoted a h noted c) ≤ c
   unfolding marksNoted
   noted-few zero = omega arith
   noted-few (suc c) =
@@ -66,11 +71,11 @@ module _ (rows : List ℕ) where
         arith,
         noted-few c,
         one-column c,
-        ap (λ k. length (marksNoted k rows)) e,
+        ap (λ k. length (marksNoted a h noted k)) e,
         ap length (noted-next c),
-        length-append (marksNoted c rows) (notedIn rows c),
+        length-append (marksNoted a h noted c) (markedIn a h noted c),
       )
 
   -- no more are taken than there are columns
-  pub taken-few : (c most : ℕ) → length (take most (marksNoted c rows)) ≤ c
-  taken-few c most = omega (arith, length-take most (marksNoted c rows), noted-few c)
+  pub taken-few : (c most : ℕ) → length (take most (marksNoted a h noted c)) ≤ c
+  taken-few c most = omega (arith, length-take most (marksNoted a h noted c), noted-few c)

@@ -10,7 +10,8 @@ use Rattle.grid.specs.Raster.{areaOf}
 use Rattle.grid.specs.declared.answers.Answer.{Answer}
 use Rattle.grid.proofs.Chain.{Passes, stands, gives-way, chain-append}
 use Rattle.cover.specs.Cover.{Given, refusedAt, orWork, answered, coverGives, Gives}
-use Rattle.cover.specs.Code.{outcomeOf, sizeChecks, rasterChecks}
+use Rattle.columns.specs.Columns.{rasterChecks}
+use Rattle.cover.specs.Code.{outcomeOf, sizeChecks}
 use Rattle.cover.specs.declared.entry.Outcome.{Outcome}
 
 module _ (a : Answer) (f m : List ℕ) (work : Given) where

@@ -1,6 +1,7 @@
 -- The work on an area gives what document 01 says: the final set's flashes and the marks, or the first marks where the flashes are more than the allowance.
--- There are no more flashes than columns, and as many marks, so counts and rooms suffice. `cover_area` uses it.
-use mathlib.Core.Path.{_≡_, sym, ap, _∙_}
+-- There are no more flashes than columns, and as many marks, so counts and rooms suffice. `cover_columns` uses it.
+use mathlib.Core.Path.{_≡_, sym, ap, subst, _∙_}
+use mathlib.Core.Bool.{true}
 use mathlib.Core.List.{List, map}
 use Prim.Native.Nat.{ℕ, _+_, _≤_, _<_}
 use native.Mathlib.Numerals.{add-one}
@@ -8,11 +9,15 @@ use native.Mathlib.Omega.{arith}
 use lib.ListN.{length, take, length-map}
 use lib.Seq.{take-all}
 use borrow.Author.Tests.{lt-ltb, le-ltb}
+use Rattle.lists.proofs.Maps.{map-same}
+use Rattle.method.specs.Intervals.{Interval, member}
 use Rattle.method.specs.Final.{final}
 use Rattle.method.proofs.Final.{final-listed}
+use Rattle.method.proofs.Listed.{in-member}
 use Rattle.method.proofs.Marks.{final-short}
 use Rattle.grid.specs.Limits.{side}
-use Rattle.grid.specs.Squares.{Area, copperNumber}
+use Rattle.grid.specs.Squares.{Area, Rectangle, InGrid, Unbroken, copperNumber}
+use Rattle.columns.specs.Columns.{Reached}
 use Rattle.intervals.specs.Table.{setOf, tableOf, Tabled}
 use Rattle.intervals.proofs.TableLaws.{set-table, tabled}
 use Rattle.cover.specs.Slices.{starting}
@@ -20,12 +25,17 @@ use Rattle.cover.specs.Flashes.{flash, flashes, flashedArea}
 use Rattle.cover.specs.Marks.{marks}
 use Rattle.cover.specs.Records.{flashesWritten, marksWritten}
 use Rattle.cover.specs.Cover.{answered}
-use Rattle.cover.specs.Code.{FlashesDone, MarksDone, shortOf, coveredOf}
+use Rattle.cover.specs.Code.{flashBetween, AllStand, FlashesDone, MarksDone, shortOf, coveredOf}
 use Rattle.cover.specs.declared.entry.Outcome.{Outcome}
 use Rattle.cover.specs.declared.flashes.Flashed.{Flashed}
 use Rattle.cover.proofs.Starting.{starting-listed}
-use Rattle.cover.proofs.Covering.{flashes-short}
+use Rattle.cover.proofs.HeightsByColumn.{stands, by-column}
+use Rattle.cover.proofs.Covering.{final-lines, final-along, flashes-short}
 use Rattle.cover.proofs.MarkLaws.{marks-flashes}
+
+-- the same flashes, told otherwise
+pub done-as : {ps qs : List Rectangle} {f f′ : List ℕ} {d : Flashed} → ps ≡ qs → FlashesDone ps f d f′ → FlashesDone qs f d f′
+done-as {f = f} {f′ = f′} {d = d} e A = subst (λ z. FlashesDone z f d f′) e A
 
 module _ (a : Area) (w h : ℕ) (fits : w ≤ side) where
   -- the final set in its table
@@ -46,6 +56,26 @@ module _ (a : Area) (w h : ℕ) (fits : w ≤ side) where
     -- as many flashes as intervals
     work-size : {n : ℕ} → n ≡ length (setOf w t) → n ≡ length (flashes a w h)
     work-size e = e ∙ sym (length-map (setOf w t) (flash a h)) ∙ ap length work-flashes
+
+    -- by bottoms and ends: each interval stands, and its rectangle is its flash
+    module _ (grid : InGrid w h a) (unbroken : Unbroken a) (low : h ≤ side) {bottoms ends : List ℕ} (R : Reached a w h bottoms ends) where
+      of-final : (i : Interval) → member i (setOf w t) ≡ true → member i (final w (starting a w h)) ≡ true
+      of-final i m = ap (member i) (sym work-set) ∙ m
+
+      pub work-stands : AllStand bottoms ends (setOf w t)
+      work-stands i m =
+          let l = final-lines a w h i (of-final i m) in
+          let y = final-along a w h i (of-final i m) in
+          stands a w h grid unbroken low R i (l .0) (l .1) (y .0) (y .1) fits
+
+      pub work-by-column : map (flashBetween bottoms ends) (setOf w t) ≡ map (flash a h) (setOf w t)
+      work-by-column =
+          map-same (flashBetween bottoms ends) (flash a h) (setOf w t)
+          (λ i m.
+          let k = of-final i (in-member m) in
+          let l = final-lines a w h i k in
+          let y = final-along a w h i k in
+          by-column a w h grid unbroken low R i (l .0) (l .1) (y .0) (y .1))
 
     module _ {k n : ℕ} (size : n ≡ length (setOf w t)) where
       -- more flashes than the allowance

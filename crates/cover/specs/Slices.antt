@@ -3,7 +3,7 @@ use mathlib.Core.Bool.{Bool, true, not, _&&_}
 use mathlib.Core.List.{List}
 use mathlib.Core.Option.{Option}
 use Prim.Native.Nat.{ℕ, zero, suc}
-use Rattle.lists.specs.Lists.{all, any, first, upTo, down}
+use Rattle.lists.specs.Lists.{all, any, first, upTo}
 use Rattle.method.specs.Intervals.{Interval, proper, columns, select}
 use Rattle.grid.specs.Squares.{Area}
 
@@ -24,15 +24,12 @@ copperAlong a y i = all (λ c. a c y) (columns i)
 unfoldable pub slice : Area → ℕ → Interval → Bool
 slice a y i = proper i && copperAlong a y i && endsLeft a y (i .left) && endsRight a y (i .right)
 
--- some row shows the interval as a slice, of the rows 0 to h - 1; the lowest row that does, and the highest
+-- some row shows the interval as a slice, of the rows 0 to h - 1; the lowest row that does
 unfoldable pub shown : Area → ℕ → Interval → Bool
 shown a h i = any (λ y. slice a y i) (upTo h)
 
 unfoldable pub lowestShown : Area → ℕ → Interval → Option ℕ
 lowestShown a h i = first (λ y. slice a y i) (upTo h)
-
-unfoldable pub highestShown : Area → ℕ → Interval → Option ℕ
-highestShown a h i = first (λ y. slice a y i) (down h)
 
 -- "The starting set S holds each slice's interval once, however many rows show it": over w columns and h rows
 unfoldable pub starting : Area → ℕ → ℕ → List Interval

@@ -1,23 +1,29 @@
 // The entry point: everything is checked, then the work is done, then the rooms are written.
 ghost use mathlib.Core.Path.{_≡_};
 ghost use mathlib.Core.List.{[]};
-ghost use Prim.Native.Nat.{_≤_};
-ghost use lib.ListN.{length, take};
+ghost use Prim.Native.Nat.{_*_, _≤_};
+ghost use lib.ListN.{length};
 ghost use Rattle.method.specs.Final.{final};
-ghost use Rattle.grid.specs.Limits.{allowanceLimit, flashRoom, markRoom};
+ghost use Rattle.method.specs.Strike.{marked};
+ghost use Rattle.grid.specs.Limits.{allowanceLimit, bracketRecord, flashRoom, markRoom};
+ghost use Rattle.grid.specs.Squares.{Unbroken};
 ghost use Rattle.grid.specs.Answers.{firstRefusal};
 ghost use Rattle.grid.specs.Code.{Sized, areaIn};
+ghost use Rattle.columns.specs.Columns.{Reached, rasterChecks};
 ghost use Rattle.intervals.specs.Table.{tableOf};
 ghost use Rattle.cover.specs.Slices;
-ghost use Rattle.cover.specs.Marks;
+ghost use Rattle.counts.specs.Marks.{notedFor};
 ghost use Rattle.cover.specs.Cover.{answered, Gives};
-ghost use Rattle.cover.specs.Code.{outcomeOf, shortOf, coveredOf, sizeChecks, rasterChecks, MarksDone};
+ghost use Rattle.cover.specs.Code.{outcomeOf, shortOf, coveredOf, sizeChecks};
 use crate::flashes::Flashed;
 use crate::flashes::write_flashes;
-use crate::marks::note_marks;
 use crate::marks::write_marks;
 use crate::slices::last_line;
 use crate::slices::starting;
+use columns::checks::columns_checked;
+use columns::copper::heights;
+use counts::NOTES;
+use counts::final_marks;
 use grid::answers;
 use grid::answers::Answer;
 use grid::limits;
@@ -26,7 +32,6 @@ use grid::raster::Job;
 use grid::raster::Size;
 use intervals::Table;
 use intervals::final_set::Search;
-use intervals::final_set::final_copy;
 use intervals::table;
 
 #[repr(C)]
@@ -114,42 +119,51 @@ pub fn raster_checked(size: Size, raster: &[u8]) -> Answer
     requires { ⌜ Sized size (now raster) ⌝ }
     ensures { λ r. ⌜ r ≡ firstRefusal (rasterChecks (size .width) (size .height) (now (raster .entry))) ⌝ }
 {
-    Answer::done()
-        .found(raster::bad_byte(size, raster), answers::BAD_BYTE)
-        .found(raster::broken(size, raster), answers::BROKEN_COLUMN)
+    let mut bottoms = [0u8; limits::SIDE];
+    let mut ends = [0u8; limits::SIDE];
+    columns_checked(size, raster, &mut bottoms, &mut ends)
 }
 
-// The starting set into one table, and its final set into the other.
-fn start_area(size: Size, raster: &[u8], set: &mut Table, work: &mut Table, search: Search)
+// The final set of the starting set into the table, and the starting set's marks into their notes.
+fn start_area(size: Size, raster: &[u8], t: &mut Table, noted: &mut [u8], search: Search)
     requires { ⌜ Sized size (now raster) ⌝ }
-    requires { ⌜ now set ≡ tableOf [] ⌝ }
-    ensures { λ _. ⌜ now (set .exit) ≡ tableOf (Slices.starting (areaIn size (now (raster .entry))) (size .width) (size .height)) ⌝ }
-    ensures { λ _. ⌜ now (work .exit) ≡ tableOf (final (size .width) (Slices.starting (areaIn size (now (raster .entry))) (size .width) (size .height))) ⌝ }
+    requires { ⌜ (now t ≡ tableOf []) × (size .width * bracketRecord ≤ length (now noted)) ⌝ }
+    ensures { λ _. ⌜ now (t .exit) ≡ tableOf (final (size .width) (Slices.starting (areaIn size (now (raster .entry))) (size .width) (size .height))) ⌝ }
+    ensures { λ _. ⌜ now (noted .exit) ≡ notedFor (marked (size .width) (Slices.starting (areaIn size (now (raster .entry))) (size .width) (size .height))) (now (noted .entry)) ⌝ }
 {
-    starting(size, raster, set);
-    final_copy(set, work, last_line(size), search);
+    starting(size, raster, t);
+    final_marks(t, last_line(size), noted, search);
 }
 
-// The marks of the starting set into their room, the first by column, at most `most` of them.
-fn mark_area(
-    size: Size,
+// The cover of an area that has passed every check, with its columns' bottoms and ends.
+fn cover_columns(
+    job: Job,
     raster: &[u8],
-    set: &mut Table,
-    work: &mut Table,
-    most: usize,
-    room: &mut [u8],
+    bottoms: &[u8],
+    ends: &[u8],
+    flash_room: &mut [u8],
+    mark_room: &mut [u8],
     search: Search,
-) -> usize
-    requires { ⌜ Sized size (now raster) ⌝ }
-    requires { ⌜ (now set ≡ tableOf (Slices.starting (areaIn size (now raster)) (size .width) (size .height))) × (markRoom ≤ length (now room)) ⌝ }
-    ensures { λ r. ⌜ MarksDone (take most (Marks.marks (areaIn size (now (raster .entry))) (size .width) (size .height))) (now (room .entry)) r (now (room .exit)) ⌝ }
+) -> Outcome
+    requires { ⌜ Sized (job .size) (now raster) ⌝ }
+    requires { ⌜ (job .allowance ≤ allowanceLimit) × (flashRoom ≤ length (now «flash_room»)) × (markRoom ≤ length (now «mark_room»)) ⌝ }
+    requires { ⌜ Unbroken (areaIn (job .size) (now raster)) × Reached (areaIn (job .size) (now raster)) (job .size .width) (job .size .height) (now bottoms) (now ends) ⌝ }
+    ensures { λ r. ⌜ record { outcome = r; flashesAfter = now («flash_room» .exit); marksAfter = now («mark_room» .exit) } ≡ answered (areaIn (job .size) (now (raster .entry))) (job .size .width) (job .size .height) (job .allowance) (now («flash_room» .entry)) (now («mark_room» .entry)) ⌝ }
 {
-    let mut rows = [0u8; limits::SIDE];
-    note_marks(size, raster, set, work, &mut rows, search);
-    write_marks(&rows, last_line(size), most, room)
+    let size = job.size;
+    let mut work = table::empty();
+    let mut noted = [0u8; NOTES];
+    start_area(size, raster, &mut work, &mut noted, search);
+    if job.allowance < table::size(&work, last_line(size)) {
+        let marks = write_marks(size, raster, &noted, job.allowance + 1, mark_room);
+        return short(marks);
+    }
+    let flashed = write_flashes(last_line(size), bottoms, ends, &work, flash_room);
+    let marks = write_marks(size, raster, &noted, limits::SIDE, mark_room);
+    covered(heights(size.width, bottoms, ends), flashed, marks)
 }
 
-// The cover of an area that has passed every check: what the entry point does after them, and what whoever has checked already may call.
+// The same for whoever has checked already.
 pub fn cover_area(
     job: Job,
     raster: &[u8],
@@ -157,37 +171,14 @@ pub fn cover_area(
     mark_room: &mut [u8],
     search: Search,
 ) -> Outcome
-    requires { ⌜ Sized (job .size) (now raster) ⌝ }
+    requires { ⌜ Sized (job .size) (now raster) × Unbroken (areaIn (job .size) (now raster)) ⌝ }
     requires { ⌜ (job .allowance ≤ allowanceLimit) × (flashRoom ≤ length (now «flash_room»)) × (markRoom ≤ length (now «mark_room»)) ⌝ }
     ensures { λ r. ⌜ record { outcome = r; flashesAfter = now («flash_room» .exit); marksAfter = now («mark_room» .exit) } ≡ answered (areaIn (job .size) (now (raster .entry))) (job .size .width) (job .size .height) (job .allowance) (now («flash_room» .entry)) (now («mark_room» .entry)) ⌝ }
 {
-    let size = job.size;
-    let mut set = table::empty();
-    let mut work = table::empty();
-    start_area(size, raster, &mut set, &mut work, search);
-    if job.allowance < table::size(&work, last_line(size)) {
-        let marks = mark_area(
-            size,
-            raster,
-            &mut set,
-            &mut work,
-            job.allowance + 1,
-            mark_room,
-            search,
-        );
-        return short(marks);
-    }
-    let flashed = write_flashes(size, raster, &work, flash_room);
-    let marks = mark_area(
-        size,
-        raster,
-        &mut set,
-        &mut work,
-        limits::SIDE,
-        mark_room,
-        search,
-    );
-    covered(raster::copper_number(size, raster), flashed, marks)
+    let mut bottoms = [0u8; limits::SIDE];
+    let mut ends = [0u8; limits::SIDE];
+    columns_checked(job.size, raster, &mut bottoms, &mut ends);
+    cover_columns(job, raster, &bottoms, &ends, flash_room, mark_room, search)
 }
 
 // The checks, and then the cover by the search that is chosen.
@@ -217,7 +208,9 @@ fn cover_checked(
         width: width as usize,
         height: height as usize,
     };
-    let bytes = raster_checked(size, raster);
+    let mut bottoms = [0u8; limits::SIDE];
+    let mut ends = [0u8; limits::SIDE];
+    let bytes = columns_checked(size, raster, &mut bottoms, &mut ends);
     if bytes.number != answers::DONE {
         return refused(bytes);
     }
@@ -225,7 +218,7 @@ fn cover_checked(
         size,
         allowance: allowance as usize,
     };
-    cover_area(job, raster, flash_room, mark_room, search)
+    cover_columns(job, raster, &bottoms, &ends, flash_room, mark_room, search)
 }
 
 #[no_mangle]

@@ -1,24 +1,24 @@
-// Flashes (rules 6 and 7): heights are taken for the interval itself.
+// Flashes (rules 6 and 7): heights are taken for the interval itself, from its columns' bottoms and ends.
 ghost use mathlib.Core.Path.{_≡_};
 ghost use mathlib.Core.List.{[], _∷_, map};
-ghost use Prim.Native.Nat.{_*_, _<_, _≤_};
+ghost use Prim.Native.Nat.{_-_, _*_, _<_, _≤_};
 ghost use lib.ListN.{length};
 ghost use Rattle.grid.specs.Limits.{side, flashRecord, flashRoom};
 ghost use Rattle.grid.specs.Lines.{row, spanOf};
-ghost use Rattle.grid.specs.Code.{Sized, areaIn};
 ghost use Rattle.grid.specs.Rooms.{written};
+ghost use Rattle.columns.specs.Columns.{greatestIn, leastIn};
 ghost use Rattle.intervals.specs.Table.{Tabled, setOf};
-ghost use Rattle.cover.specs.Code.{rectangleOf, flashesAt, Drawn, Ready, Added, FlashesDone};
-ghost use Rattle.cover.specs.Flashes.{flash, areaOfFlash};
+ghost use Rattle.cover.specs.Code.{rectangleOf, flashBetween, flashesAt, Standing, AllStand, Drawn, Ready, Added, FlashesDone};
+ghost use Rattle.cover.specs.Flashes.{areaOfFlash};
 ghost use Rattle.cover.specs.Records.{flashBytes};
-use crate::slices::copper_along;
-use crate::slices::last_line;
+use columns::reach::greatest;
+use columns::reach::least;
 use grid::limits::FLASH_RECORD;
 use grid::lines::Column;
 use grid::lines::Columns;
 use grid::lines::Interval;
+use grid::lines::Line;
 use grid::lines::Row;
-use grid::raster::Size;
 use grid::rooms::put_bytes;
 use intervals::Table;
 use intervals::table;
@@ -36,41 +36,32 @@ pub struct Flashed {
     pub area: usize,
 }
 
-// The lowest row that is copper in every column of the interval.
-fn lowest(size: Size, raster: &[u8], i: Interval) -> Row
-    requires { ⌜ Sized size (now raster) ⌝ }
-    ensures { λ r. ⌜ r ≡ row (flash (areaIn size (now (raster .entry))) (size .height) (spanOf i) .bottom) ⌝ }
+// The lowest row that is copper in every column of the interval: the greatest bottom.
+fn lowest(bottoms: &[u8], i: Interval) -> Row
+    requires { ⌜ i .right .0 ≤ length (now bottoms) ⌝ }
+    ensures { λ r. ⌜ r ≡ row (greatestIn (now (bottoms .entry)) (i .left .0) (i .right .0 - i .left .0)) ⌝ }
 {
-    for y in 0..size.height {
-        if copper_along(size, raster, Row(y), i) {
-            return Row(y);
-        }
-    }
-    Row(0)
+    let first = i.left.column_after();
+    let end = i.right.column_after();
+    Row(greatest(bottoms, first.0, end.0) as usize)
 }
 
-// The highest such row.
-fn highest(size: Size, raster: &[u8], i: Interval) -> Row
-    requires { ⌜ Sized size (now raster) ⌝ }
-    ensures { λ r. ⌜ r ≡ row (flash (areaIn size (now (raster .entry))) (size .height) (spanOf i) .top) ⌝ }
+// The highest such row: before the least end.
+fn highest(ends: &[u8], i: Interval) -> Row
+    requires { ⌜ (i .right .0 ≤ length (now ends)) × (0 < leastIn (now ends) (i .left .0) (i .right .0 - i .left .0)) ⌝ }
+    ensures { λ r. ⌜ r ≡ row (leastIn (now (ends .entry)) (i .left .0) (i .right .0 - i .left .0) - 1) ⌝ }
 {
-    let mut left = size.height;
-    while 0 < left {
-        left -= 1;
-        if copper_along(size, raster, Row(left), i) {
-            return Row(left);
-        }
-    }
-    Row(0)
+    let first = i.left.column_after();
+    let end = i.right.column_after();
+    Row(least(ends, first.0, end.0) as usize - 1)
 }
 
-fn flash_of(size: Size, raster: &[u8], i: Interval) -> Flash
-    requires { ⌜ Sized size (now raster) ⌝ }
-    requires { ⌜ i .left .0 < i .right .0 ⌝ }
-    ensures { λ r. ⌜ rectangleOf r ≡ flash (areaIn size (now (raster .entry))) (size .height) (spanOf i) ⌝ }
+fn flash_of(bottoms: &[u8], ends: &[u8], i: Interval) -> Flash
+    requires { ⌜ Standing (now bottoms) (now ends) (spanOf i) ⌝ }
+    ensures { λ r. ⌜ rectangleOf r ≡ flashBetween (now (bottoms .entry)) (now (ends .entry)) (spanOf i) ⌝ }
 {
-    let bottom = lowest(size, raster, i);
-    let top = highest(size, raster, i);
+    let bottom = lowest(bottoms, i);
+    let top = highest(ends, i);
     match i.columns() {
         Columns::Run(first, last) => Flash {
             first,
@@ -109,13 +100,12 @@ fn put_flash(room: &mut [u8], n: usize, q: Flash)
     put_bytes(room, n * FLASH_RECORD, &record);
 }
 
-fn write_flash(size: Size, raster: &[u8], i: Interval, room: &mut [u8], done: Flashed) -> Flashed
-    requires { ⌜ Sized size (now raster) ⌝ }
-    requires { ⌜ (i .left .0 < i .right .0) × (i .right .0 ≤ side) ⌝ }
-    requires { ⌜ Ready (flash (areaIn size (now raster)) (size .height) (spanOf i) ∷ []) done (now room) ⌝ }
-    ensures { λ r. ⌜ Added (flash (areaIn size (now (raster .entry))) (size .height) (spanOf i) ∷ []) (now (room .entry)) done r (now (room .exit)) ⌝ }
+fn write_flash(bottoms: &[u8], ends: &[u8], i: Interval, room: &mut [u8], done: Flashed) -> Flashed
+    requires { ⌜ Standing (now bottoms) (now ends) (spanOf i) ⌝ }
+    requires { ⌜ Ready (flashBetween (now bottoms) (now ends) (spanOf i) ∷ []) done (now room) ⌝ }
+    ensures { λ r. ⌜ Added (flashBetween (now (bottoms .entry)) (now (ends .entry)) (spanOf i) ∷ []) (now (room .entry)) done r (now (room .exit)) ⌝ }
 {
-    let q = flash_of(size, raster, i);
+    let q = flash_of(bottoms, ends, i);
     put_flash(room, done.count, q);
     Flashed {
         count: done.count + 1,
@@ -125,33 +115,33 @@ fn write_flash(size: Size, raster: &[u8], i: Interval, room: &mut [u8], done: Fl
 
 // Cell k of the table.
 fn write_cell(
-    size: Size,
-    raster: &[u8],
+    last: Line,
+    bottoms: &[u8],
+    ends: &[u8],
     t: &Table,
     k: usize,
     room: &mut [u8],
     done: Flashed,
 ) -> Flashed
-    requires { ⌜ Sized size (now raster) ⌝ }
-    requires { ⌜ Tabled (size .width) (now t) ⌝ }
-    requires { ⌜ Ready (flashesAt (areaIn size (now raster)) (size .height) (setOf (size .width) (now t)) k) done (now room) ⌝ }
-    ensures { λ r. ⌜ Added (flashesAt (areaIn size (now (raster .entry))) (size .height) (setOf (size .width) (now (t .entry))) k) (now (room .entry)) done r (now (room .exit)) ⌝ }
+    requires { ⌜ Tabled (last .0) (now t) × AllStand (now bottoms) (now ends) (setOf (last .0) (now t)) ⌝ }
+    requires { ⌜ Ready (flashesAt (flashBetween (now bottoms) (now ends)) (setOf (last .0) (now t)) k) done (now room) ⌝ }
+    ensures { λ r. ⌜ Added (flashesAt (flashBetween (now (bottoms .entry)) (now (ends .entry))) (setOf (last .0) (now (t .entry))) k) (now (room .entry)) done r (now (room .exit)) ⌝ }
 {
-    if !table::is_on(t, last_line(size), k) {
+    if !table::is_on(t, last, k) {
         return done;
     }
-    write_flash(size, raster, table::interval_at(k), room, done)
+    write_flash(bottoms, ends, table::interval_at(k), room, done)
 }
 
-// A flash for each interval of the table, in the table's order.
-pub fn write_flashes(size: Size, raster: &[u8], t: &Table, room: &mut [u8]) -> Flashed
-    requires { ⌜ Sized size (now raster) ⌝ }
-    requires { ⌜ Tabled (size .width) (now t) × (length (setOf (size .width) (now t)) ≤ side) × (flashRoom ≤ length (now room)) ⌝ }
-    ensures { λ r. ⌜ FlashesDone (map (flash (areaIn size (now (raster .entry))) (size .height)) (setOf (size .width) (now (t .entry)))) (now (room .entry)) r (now (room .exit)) ⌝ }
+// A flash for each interval of the table, in the table's order, from its columns' bottoms and ends.
+pub fn write_flashes(last: Line, bottoms: &[u8], ends: &[u8], t: &Table, room: &mut [u8]) -> Flashed
+    requires { ⌜ Tabled (last .0) (now t) × AllStand (now bottoms) (now ends) (setOf (last .0) (now t)) ⌝ }
+    requires { ⌜ (length (setOf (last .0) (now t)) ≤ side) × (flashRoom ≤ length (now room)) ⌝ }
+    ensures { λ r. ⌜ FlashesDone (map (flashBetween (now (bottoms .entry)) (now (ends .entry))) (setOf (last .0) (now (t .entry)))) (now (room .entry)) r (now (room .exit)) ⌝ }
 {
     let mut done = Flashed { count: 0, area: 0 };
-    for k in 0..table::cells_to(last_line(size)) {
-        done = write_cell(size, raster, t, k, room, done);
+    for k in 0..table::cells_to(last) {
+        done = write_cell(last, bottoms, ends, t, k, room, done);
     }
     done
 }

@@ -1,13 +1,14 @@
 // Slices, and the starting set (rule 1).
 ghost use mathlib.Core.Path.{_≡_};
 ghost use mathlib.Core.List.{[]};
-ghost use Prim.Native.Nat.{_+_};
-ghost use Rattle.grid.specs.Lines.{line, spanOf};
-ghost use Rattle.grid.specs.Code.{Sized, areaIn, levelOf};
+ghost use Prim.Native.Nat.{_+_, _-_};
+ghost use Rattle.lists.specs.Lists as List;
+ghost use Rattle.lists.specs.Lists.{first};
+ghost use Rattle.grid.specs.Lines.{column, line, spanOf};
+ghost use Rattle.grid.specs.Code.{Sized, areaIn, levelOf, orEnd, asAsked};
 ghost use Rattle.intervals.specs.Table.{tableOf};
 ghost use Rattle.cover.specs.Slices;
-ghost use Rattle.cover.specs.Slices.{copperAlong, endsLeft, endsRight, slice, lowestShown, highestShown};
-ghost use Rattle.cover.specs.Code.{seenOf, startedTo};
+ghost use Rattle.cover.specs.Slices.{copperAlong, endsLeft, endsRight, slice, lowestShown};
 use grid::lines::Column;
 use grid::lines::Interval;
 use grid::lines::Line;
@@ -17,17 +18,6 @@ use grid::raster::Size;
 use grid::raster::is_copper;
 use intervals::Table;
 use intervals::table;
-
-// The rows that show an interval.
-pub struct Shown {
-    pub lowest: Row,
-    pub highest: Row,
-}
-
-pub enum Seen {
-    Never,
-    In(Shown),
-}
 
 // The line to the right of the job's last column.
 pub fn last_line(size: Size) -> Line
@@ -84,8 +74,8 @@ fn is_slice(size: Size, raster: &[u8], row: Row, i: Interval) -> bool
     copper_along(size, raster, row, i)
 }
 
-// The lowest row that shows the interval as a slice.
-fn lowest_shown(size: Size, raster: &[u8], i: Interval) -> Level
+// The lowest row that shows the interval as a slice; rows above it need not.
+pub fn lowest_shown(size: Size, raster: &[u8], i: Interval) -> Level
     requires { ⌜ Sized size (now raster) ⌝ }
     ensures { λ r. ⌜ r ≡ levelOf (lowestShown (areaIn size (now (raster .entry))) (size .height) (spanOf i)) ⌝ }
 {
@@ -98,58 +88,51 @@ fn lowest_shown(size: Size, raster: &[u8], i: Interval) -> Level
     Level::None
 }
 
-// The highest such row.
-fn highest_shown(size: Size, raster: &[u8], i: Interval) -> Level
+// The next column from `from` on whose square in the row is copper, or is not, as asked; the one past the last where there is none.
+fn next_column(size: Size, raster: &[u8], row: Row, from: Column, copper: bool) -> Column
     requires { ⌜ Sized size (now raster) ⌝ }
-    ensures { λ r. ⌜ r ≡ levelOf (highestShown (areaIn size (now (raster .entry))) (size .height) (spanOf i)) ⌝ }
+    ensures { λ r. ⌜ r ≡ column (orEnd (size .width) (first (λ k. asAsked copper (areaIn size (now (raster .entry)) k (row .0))) (List.from («from» .0) (size .width - «from» .0)))) ⌝ }
 {
-    let mut left = size.height;
-    while 0 < left {
-        left -= 1;
-        if is_slice(size, raster, Row(left), i) {
-            return Level::In(Row(left));
+    let w = size.width;
+    for c in from.0..w {
+        if is_copper(size, raster, Column(c), row) == copper {
+            return Column(c);
         }
     }
-    Level::None
+    Column(w)
 }
 
-// The rows that show the interval as a slice; those between the lowest and the highest need not.
-pub fn find(size: Size, raster: &[u8], i: Interval) -> Seen
+// Each slice of the row, from the left, into the table of what the rows below it show.
+fn put_row(size: Size, raster: &[u8], row: Row, t: &mut Table)
     requires { ⌜ Sized size (now raster) ⌝ }
-    ensures { λ r. ⌜ r ≡ seenOf (lowestShown (areaIn size (now (raster .entry))) (size .height) (spanOf i)) (highestShown (areaIn size (now (raster .entry))) (size .height) (spanOf i)) ⌝ }
+    requires { ⌜ now t ≡ tableOf (Slices.starting (areaIn size (now raster)) (size .width) (row .0)) ⌝ }
+    ensures { λ _. ⌜ now (t .exit) ≡ tableOf (Slices.starting (areaIn size (now (raster .entry))) (size .width) (row .0 + 1)) ⌝ }
 {
-    let Level::In(lowest) = lowest_shown(size, raster, i) else {
-        return Seen::Never;
-    };
-    let Level::In(highest) = highest_shown(size, raster, i) else {
-        return Seen::Never;
-    };
-    Seen::In(Shown { lowest, highest })
-}
-
-// The interval of cell k, where it is one over the job's lines and some row shows it.
-fn put_seen(size: Size, raster: &[u8], t: &mut Table, k: usize)
-    requires { ⌜ Sized size (now raster) ⌝ }
-    requires { ⌜ now t ≡ tableOf (startedTo (areaIn size (now raster)) (size .width) (size .height) k) ⌝ }
-    ensures { λ _. ⌜ now (t .exit) ≡ tableOf (startedTo (areaIn size (now (raster .entry))) (size .width) (size .height) (k + 1)) ⌝ }
-{
-    let i = table::interval_at(k);
     let last = last_line(size);
-    if !Interval::up_to(last).contains(i) {
-        return;
-    }
-    if let Seen::In(_) = find(size, raster, i) {
+    let mut at = Column(0);
+    loop {
+        let first = next_column(size, raster, row, at, true);
+        if last.0 <= first.0 {
+            return;
+        }
+        let end = next_column(size, raster, row, first, false);
+        let i = Interval {
+            left: first.left_line(),
+            right: end.left_line(),
+        };
         table::put(t, last, i);
+        at = end;
     }
 }
 
-// The starting set, into an empty table.
+// The starting set, into an empty table: row after row.
 pub fn starting(size: Size, raster: &[u8], t: &mut Table)
     requires { ⌜ Sized size (now raster) ⌝ }
     requires { ⌜ now t ≡ tableOf [] ⌝ }
     ensures { λ _. ⌜ now (t .exit) ≡ tableOf (Slices.starting (areaIn size (now (raster .entry))) (size .width) (size .height)) ⌝ }
 {
-    for k in 0..table::cells_to(last_line(size)) {
-        put_seen(size, raster, t, k);
+    let h = size.height;
+    for y in 0..h {
+        put_row(size, raster, Row(y), t);
     }
 }

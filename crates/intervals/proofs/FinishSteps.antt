@@ -27,7 +27,7 @@ use Rattle.grid.specs.declared.lines.Interval.{Interval}
 use Rattle.intervals.specs.declared.Found.{Found}
 use Rattle.intervals.specs.declared.Found.the-variants.{Nothing, At}
 use Rattle.intervals.specs.Table.{setOf, tableOf, Tabled, foundOf}
-use Rattle.intervals.specs.Finished.{bracketBytes, Roomy, isFound, Turned, Finished}
+use Rattle.intervals.specs.Finished.{bracketBytes, Roomy, isFound, NextReduced, Finished}
 use Rattle.intervals.proofs.TableLaws.{set-listed, left-as}
 
 -- what was found, read back
@@ -135,7 +135,7 @@ unfolding traced
 one-traced n s e = traced-step n 0 s e
 
 module _ (n : ℕ) (t room : List ℕ) (k : ℕ) where
-  pub turn-none : Tabled n t → leftmost n (setOf n t) ≡ none → Turned n (setOf n t) room k false t room
+  pub turn-none : Tabled n t → leftmost n (setOf n t) ≡ none → NextReduced n (setOf n t) room k false t room
   turn-none T e =
       record {
         told = sym (ap isFound e);
@@ -144,7 +144,7 @@ module _ (n : ℕ) (t room : List ℕ) (k : ℕ) where
       }
 
   pub turn-some : {d : Span} → leftmost n (setOf n t) ≡ some d → (t2 b2 : List ℕ) → t2 ≡ tableOf (reduce n (setOf n t) d)
-      → b2 ≡ written room (k * bracketRecord) (bracketBytes d) → Turned n (setOf n t) room k true t2 b2
+      → b2 ≡ written room (k * bracketRecord) (bracketBytes d) → NextReduced n (setOf n t) room k true t2 b2
   turn-some {d} e t2 b2 p q =
       record {
         told = sym (ap isFound e);
@@ -152,7 +152,7 @@ module _ (n : ℕ) (t room : List ℕ) (k : ℕ) where
         noted = q ∙ ap (λ ds. written room (k * bracketRecord) (noted ds)) (sym (one-traced n (setOf n t) e));
       }
 
-module _ {n : ℕ} {w a t b : List ℕ} {k : ℕ} (W : OnWay n w a t b k) {r : Bool} {t2 b2 : List ℕ} (T : Turned n (setOf n t) b k r t2 b2) where
+module _ {n : ℕ} {w a t b : List ℕ} {k : ℕ} (W : OnWay n w a t b k) {r : Bool} {t2 b2 : List ℕ} (T : NextReduced n (setOf n t) b k r t2 b2) where
   pub turn-over : r ≡ false → Finished n w a k t2 b2
   turn-over f =
       ocase (leftmost n (setOf n t))

@@ -26,7 +26,7 @@ use Rattle.intervals.specs.declared.dependent.Tops.{Tops}
 use Rattle.intervals.specs.Table.{with, without}
 use Rattle.intervals.specs.Reach.{reach}
 use Rattle.intervals.specs.Tops.{tops, endsBeyond, Greatest}
-use Rattle.intervals.specs.Sweep.{TopTwo, Kept, Lowered, givenWay}
+use Rattle.intervals.specs.Sweep.{TopTwo, LinesKept, Lowered, givenWay}
 use Rattle.intervals.proofs.TableLaws.{changed-listed, changed-here, changed-other}
 use Rattle.intervals.proofs.TopLines.{ends-box, bit-small}
 use Rattle.intervals.proofs.ReduceRows.{reach-top}
@@ -133,7 +133,7 @@ two-late n {s} listed {l} {b} {c} {t} h k T =
     }
 
 -- what is kept are lines up to b
-pub kept-small : {s : List Span} {b : ℕ} {u v : List ℕ} → Kept s b u v → (l : ℕ) → l < lines → (getD u l 0 ≤ b) × (getD v l 0 ≤ b)
+pub kept-small : {s : List Span} {b : ℕ} {u v : List ℕ} → LinesKept s b u v → (l : ℕ) → l < lines → (getD u l 0 ≤ b) × (getD v l 0 ≤ b)
 kept-small K l k = let T = K .each l k in let o = T .ordered in (T .within, omega (arith, T .within))
 
 -- the rows before line l have line b in, the others not yet
@@ -143,10 +143,10 @@ pub record Coming (s : List Span) (b l : ℕ) (u v : List ℕ) : Type 0 where
   pub done : (k : ℕ) → k < l → k < lines → TopTwo s k b (tops (getD u k 0) (getD v k 0))
   pub ahead : (k : ℕ) → l ≤ k → k < lines → TopTwo s k (b - 1) (tops (getD u k 0) (getD v k 0))
 
-pub coming-start : {s : List Span} {b : ℕ} {u v : List ℕ} → Kept s (b - 1) u v → Coming s b 0 u v
+pub coming-start : {s : List Span} {b : ℕ} {u v : List ℕ} → LinesKept s (b - 1) u v → Coming s b 0 u v
 coming-start K = record { one = K .one; two = K .two; done = λ k h w. absurd (omega arith); ahead = λ k h w. K .each k w }
 
-pub coming-end : (n : ℕ) {s : List Span} → Listed n s → {b l : ℕ} {u v : List ℕ} → b ≤ l → Coming s b l u v → Kept s b u v
+pub coming-end : (n : ℕ) {s : List Span} → Listed n s → {b l : ℕ} {u v : List ℕ} → b ≤ l → Coming s b l u v → LinesKept s b u v
 coming-end n listed {b} {l} h C =
     record {
       one = C .one;
@@ -283,7 +283,7 @@ module _ (n : ℕ) {s : List Span} (listed : Listed n s) {l b g m o : ℕ} (T : 
           bcase (ltb l o) (λ t. (e ∙ rw t, ltb-true l o t)) (λ f. absurd (let z : p ≡ 0 = e ∙ rw f in omega arith))
 
   -- and what is kept with it
-  pub given-kept : {u v : List ℕ} → Kept s b u v → l < lines → (t : Tops) → TopTwo given l b t → Kept given b (set u l (t .greater .0)) (set v l (t .lesser .0))
+  pub given-kept : {u v : List ℕ} → LinesKept s b u v → l < lines → (t : Tops) → TopTwo given l b t → LinesKept given b (set u l (t .greater .0)) (set v l (t .lesser .0))
   given-kept {u} {v} K here t G =
       let one = K .one in
       let two = K .two in
@@ -299,7 +299,7 @@ module _ (n : ℕ) {s : List Span} (listed : Listed n s) {l b g m o : ℕ} (T : 
       }
 
 -- the same of the code's two intervals
-module _ (n : ℕ) {s : List Span} (listed : Listed n s) {b : ℕ} (i j : Span) {u v : List ℕ} (K : Kept s b u v) (short : b ≤ n)
+module _ (n : ℕ) {s : List Span} (listed : Listed n s) {b : ℕ} (i j : Span) {u v : List ℕ} (K : LinesKept s b u v) (short : b ≤ n)
     (rise : (i .left ≤ j .left) × (i .right < j .right) × (j .left < lines)) (first : getD u (j .left) 0 ≡ j .right) where
   met : meet i j ≡ span (j .left) (i .right)
   met = interval-path (meet i j) (span (j .left) (i .right)) (omega arith) (omega arith)
@@ -319,9 +319,9 @@ module _ (n : ℕ) {s : List Span} (listed : Listed n s) {b : ℕ} (i j : Span) 
       (given-lowered n listed here short (omega arith) p (e ∙ ap (λ z. cond (proper z) (z .right) 0) met))
 
   pub way-kept : (t : Tops) → TopTwo (givenWay n i j s) (j .left) b t
-      → Kept (givenWay n i j s) b (set u (j .left) (t .greater .0)) (set v (j .left) (t .lesser .0))
+      → LinesKept (givenWay n i j s) b (set u (j .left) (t .greater .0)) (set v (j .left) (t .lesser .0))
   way-kept t G =
-      subst⁻¹ (λ z. Kept z b (set u (j .left) (t .greater .0)) (set v (j .left) (t .lesser .0))) way
+      subst⁻¹ (λ z. LinesKept z b (set u (j .left) (t .greater .0)) (set v (j .left) (t .lesser .0))) way
       (given-kept n listed here short (omega arith) K (rise .2) t (subst (λ z. TopTwo z (j .left) b t) way G))
 
 -- the greatest line is how far the row reaches

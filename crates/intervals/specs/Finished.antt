@@ -33,7 +33,7 @@ isFound none = false
 isFound (some i) = true
 
 -- for an inner function only (`reduce_next`): one turn of rule 5, with k brackets noted before; where no bracket is left, nothing changes
-pub record Turned (n : ℕ) (s : List Span) (room : List ℕ) (k : ℕ) (turned : Bool) (after roomAfter : List ℕ) : Type 0 where
+pub record NextReduced (n : ℕ) (s : List Span) (room : List ℕ) (k : ℕ) (turned : Bool) (after roomAfter : List ℕ) : Type 0 where
   pub told : turned ≡ isFound (leftmost n s)
   pub set : after ≡ tableOf (reduced n 1 s)
   pub noted : roomAfter ≡ written room (k * bracketRecord) (gather bracketBytes (traced n 1 s))

@@ -13,7 +13,7 @@ use Rattle.grid.specs.Limits.{lines}
 use Rattle.intervals.specs.declared.dependent.Tops.{Tops}
 use Rattle.intervals.specs.declared.sweep.Held.{Held}
 use Rattle.intervals.specs.declared.sweep.Step.{Step}
-use Rattle.intervals.specs.declared.sweep.Step.the-variants.{Found as Hit, On}
+use Rattle.intervals.specs.declared.sweep.Step.the-variants.{Dependent as Hit, On}
 use Rattle.intervals.specs.declared.Found.{Found}
 use Rattle.intervals.specs.declared.Found.the-variants.{Nothing, At}
 use Rattle.intervals.specs.Table.{with, without}
@@ -29,15 +29,15 @@ pub record TopTwo (s : List Span) (l b : ℕ) (t : Tops) : Type 0 where
   pub only : (r : ℕ) → r ≤ b → member (span l r) s ≡ true → t .lesser .0 < r → r ≡ t .greater .0
 
 -- two lines are kept for each line l: those two
-pub record Kept (s : List Span) (b : ℕ) (firsts seconds : List ℕ) : Type 0 where
+pub record LinesKept (s : List Span) (b : ℕ) (firsts seconds : List ℕ) : Type 0 where
   pub one : length firsts ≡ lines
   pub two : length seconds ≡ lines
   pub each : (l : ℕ) → l < lines → TopTwo s l b (tops (getD firsts l 0) (getD seconds l 0))
 
 -- at the line at which a bracket that was found ends
-abbrev pub KeptAt : List Span → Found → List ℕ → List ℕ → Type 0
-KeptAt s (At d) firsts seconds = Kept s (d .right .0) firsts seconds
-KeptAt s Nothing firsts seconds = Unit {0}
+abbrev pub LinesKeptAt : List Span → Found → List ℕ → List ℕ → Type 0
+LinesKeptAt s (At d) firsts seconds = LinesKept s (d .right .0) firsts seconds
+LinesKeptAt s Nothing firsts seconds = Unit {0}
 
 -- row l of s has the interval that ends at line m and, beyond it and up to b, at most the one that ends at line p; 0 for none
 pub record Lowered (s : List Span) (l b m p : ℕ) : Type 0 where

@@ -7,7 +7,7 @@ ghost use Rattle.grid.specs.Limits.{bracketRecord};
 ghost use Rattle.grid.specs.Lines.{spanOf};
 ghost use Rattle.grid.specs.Rooms.{written};
 ghost use Rattle.intervals.specs.Table.{setOf, tableOf, Tabled};
-ghost use Rattle.intervals.specs.Finished.{bracketBytes, Roomy, Turned, Finished};
+ghost use Rattle.intervals.specs.Finished.{bracketBytes, Roomy, NextReduced, Finished};
 use crate::Found;
 use crate::Table;
 use crate::bracket::bracket;
@@ -33,7 +33,7 @@ pub fn note_bracket(room: &mut [u8], n: usize, d: Interval)
 fn reduce_next(t: &mut Table, last: Line, room: &mut [u8], n: usize) -> bool
     requires { ⌜ Tabled (last .0) (now t) ⌝ }
     requires { ⌜ n * bracketRecord + length (setOf (last .0) (now t)) * bracketRecord ≤ length (now room) ⌝ }
-    ensures { λ r. ⌜ Turned (last .0) (setOf (last .0) (now (t .entry))) (now (room .entry)) n r (now (t .exit)) (now (room .exit)) ⌝ }
+    ensures { λ r. ⌜ NextReduced (last .0) (setOf (last .0) (now (t .entry))) (now (room .entry)) n r (now (t .exit)) (now (room .exit)) ⌝ }
 {
     let Found::At(d) = bracket(t, last) else {
         return false;

@@ -12,7 +12,7 @@ ghost use Rattle.grid.specs.Lines.{line, spanOf};
 ghost use Rattle.intervals.specs.Table.{setOf, tableOf, Tabled, foundOf};
 ghost use Rattle.intervals.specs.Search.{NoneBefore};
 ghost use Rattle.intervals.specs.Finished.{Roomy, Finished};
-ghost use Rattle.intervals.specs.Sweep.{Stepped, Kept, KeptAt, Lowered, TopTwo, givenWay};
+ghost use Rattle.intervals.specs.Sweep.{Stepped, LinesKept, LinesKeptAt, Lowered, TopTwo, givenWay};
 use crate::Found;
 use crate::Table;
 use crate::dependent::Tops;
@@ -31,7 +31,7 @@ pub struct Held {
 }
 
 pub enum Step {
-    Found,
+    Dependent,
     On(Held),
 }
 
@@ -43,7 +43,7 @@ fn stepped(held: Held, left: Line, tops: Tops) -> Step
     let once = held.once;
     if twice.0 <= tops.greater.0 {
         if once.0 <= tops.lesser.0 {
-            return Step::Found;
+            return Step::Dependent;
         }
         return Step::On(Held {
             twice: once,
@@ -63,8 +63,8 @@ type Ends = [u8; LINES];
 fn advance(t: &Table, last: Line, right: Line, firsts: &mut Ends, seconds: &mut Ends)
     requires { ⌜ Tabled (last .0) (now t) ⌝ }
     requires { ⌜ (1 ≤ right .0) × (right .0 ≤ last .0) ⌝ }
-    requires { ⌜ Kept (setOf (last .0) (now t)) (right .0 - 1) (now firsts) (now seconds) ⌝ }
-    ensures { λ r. ⌜ Kept (setOf (last .0) (now (t .entry))) (right .0) (now (firsts .exit)) (now (seconds .exit)) ⌝ }
+    requires { ⌜ LinesKept (setOf (last .0) (now t)) (right .0 - 1) (now firsts) (now seconds) ⌝ }
+    ensures { λ r. ⌜ LinesKept (setOf (last .0) (now (t .entry))) (right .0) (now (firsts .exit)) (now (seconds .exit)) ⌝ }
 {
     let end = right.0;
     for l in 0..end {
@@ -79,10 +79,10 @@ fn advance(t: &Table, last: Line, right: Line, firsts: &mut Ends, seconds: &mut 
 fn bracket_from(t: &Table, last: Line, from: Line, firsts: &mut Ends, seconds: &mut Ends) -> Found
     requires { ⌜ Tabled (last .0) (now t) ⌝ }
     requires { ⌜ from .0 ≤ last .0 ⌝ }
-    requires { ⌜ Kept (setOf (last .0) (now t)) (from .0) (now firsts) (now seconds) ⌝ }
+    requires { ⌜ LinesKept (setOf (last .0) (now t)) (from .0) (now firsts) (now seconds) ⌝ }
     requires { ⌜ NoneBefore (setOf (last .0) (now t)) (from .0) ⌝ }
     ensures { λ r. ⌜ r ≡ foundOf (leftmost (last .0) (setOf (last .0) (now (t .entry)))) ⌝ }
-    ensures { λ r. ⌜ KeptAt (setOf (last .0) (now (t .entry))) r (now (firsts .exit)) (now (seconds .exit)) ⌝ }
+    ensures { λ r. ⌜ LinesKeptAt (setOf (last .0) (now (t .entry))) r (now (firsts .exit)) (now (seconds .exit)) ⌝ }
 {
     let mut right = from.0;
     'search: loop {
@@ -160,10 +160,10 @@ fn give_way(
 )
     requires { ⌜ Tabled (last .0) (now t) ⌝ }
     requires { ⌜ (right .0 ≤ last .0) × (outer .left .0 ≤ next .left .0) × (outer .right .0 < next .right .0) × (next .left .0 < lines) ⌝ }
-    requires { ⌜ Kept (setOf (last .0) (now t)) (right .0) (now firsts) (now seconds) ⌝ }
+    requires { ⌜ LinesKept (setOf (last .0) (now t)) (right .0) (now firsts) (now seconds) ⌝ }
     requires { ⌜ getD (now firsts) (next .left .0) 0 ≡ next .right .0 ⌝ }
     ensures { λ r. ⌜ now (t .exit) ≡ tableOf (givenWay (last .0) (spanOf outer) (spanOf next) (setOf (last .0) (now (t .entry)))) ⌝ }
-    ensures { λ r. ⌜ Kept (givenWay (last .0) (spanOf outer) (spanOf next) (setOf (last .0) (now (t .entry)))) (right .0) (now (firsts .exit)) (now (seconds .exit)) ⌝ }
+    ensures { λ r. ⌜ LinesKept (givenWay (last .0) (spanOf outer) (spanOf next) (setOf (last .0) (now (t .entry)))) (right .0) (now (firsts .exit)) (now (seconds .exit)) ⌝ }
 {
     let l = next.left.0;
     let over = outer.meet(next);
@@ -179,9 +179,9 @@ fn give_way(
 fn reduce_kept(t: &mut Table, last: Line, d: Interval, firsts: &mut Ends, seconds: &mut Ends)
     requires { ⌜ Tabled (last .0) (now t) ⌝ }
     requires { ⌜ d .right .0 ≤ last .0 ⌝ }
-    requires { ⌜ Kept (setOf (last .0) (now t)) (d .right .0) (now firsts) (now seconds) ⌝ }
+    requires { ⌜ LinesKept (setOf (last .0) (now t)) (d .right .0) (now firsts) (now seconds) ⌝ }
     ensures { λ r. ⌜ now (t .exit) ≡ tableOf (reduce (last .0) (setOf (last .0) (now (t .entry))) (spanOf d)) ⌝ }
-    ensures { λ r. ⌜ Kept (reduce (last .0) (setOf (last .0) (now (t .entry))) (spanOf d)) (d .right .0) (now (firsts .exit)) (now (seconds .exit)) ⌝ }
+    ensures { λ r. ⌜ LinesKept (reduce (last .0) (setOf (last .0) (now (t .entry))) (spanOf d)) (d .right .0) (now (firsts .exit)) (now (seconds .exit)) ⌝ }
 {
     let left = d.left;
     let right = d.right;

@@ -11,7 +11,8 @@ use Rattle.grid.specs.Answers.{check, orElse, firstRefusal, sizeOut, rasterLeng
 use Rattle.grid.specs.Raster.{sizeFits, lengthFits, areaOf}
 use Rattle.grid.specs.declared.answers.Answer.{Answer}
 use Rattle.grid.proofs.Chain.{Passes, stands, gives-way, chain-append}
-use Rattle.cover.specs.Code.{sizeChecks, rasterChecks}
+use Rattle.columns.specs.Columns.{rasterChecks}
+use Rattle.cover.specs.Code.{sizeChecks}
 use Rattle.listcheck.specs.FlashList.{flashesOf}
 use Rattle.listcheck.specs.Checked.{Given, refusedAt, judged, listChecks, orVerdict, checkGives, Gives}
 use Rattle.listcheck.specs.declared.entry.Checked.{Checked}

@@ -5,7 +5,7 @@ ghost use Prim.Native.Nat.{_≤_};
 ghost use lib.ListN.{length};
 ghost use Rattle.grid.specs.Limits.{markRoom};
 ghost use Rattle.grid.specs.Answers.{firstRefusal};
-ghost use Rattle.grid.specs.Squares.{square};
+ghost use Rattle.grid.specs.Squares.{square, Unbroken};
 ghost use Rattle.grid.specs.Code.{Sized, areaIn};
 ghost use Rattle.cover.specs.Flashes as Flashes;
 ghost use Rattle.listcheck.specs.FlashList.{flashesOf};
@@ -102,7 +102,7 @@ fn list_checked(list: &[u8], lines: Lines) -> Answer
 
 // A sound list of so many flashes: how many it has above the least, and our marks.
 fn weigh(size: Size, raster: &[u8], count: usize, mark_room: &mut [u8]) -> Checked
-    requires { ⌜ Sized size (now raster) ⌝ }
+    requires { ⌜ Sized size (now raster) × Unbroken (areaIn size (now raster)) ⌝ }
     requires { ⌜ (length (Flashes.flashes (areaIn size (now raster)) (size .width) (size .height)) ≤ count) × (markRoom ≤ length (now «mark_room»)) ⌝ }
     ensures { λ r. ⌜ record { outcome = r; marksAfter = now («mark_room» .exit) } ≡ soundWith (areaIn size (now (raster .entry))) (size .width) (size .height) count (now («mark_room» .entry)) ⌝ }
 {
@@ -125,7 +125,7 @@ fn weigh(size: Size, raster: &[u8], count: usize, mark_room: &mut [u8]) -> Check
 
 // The verdict on what has passed every check.
 fn judge(size: Size, raster: &[u8], list: &[u8], count: usize, mark_room: &mut [u8]) -> Checked
-    requires { ⌜ Sized size (now raster) ⌝ }
+    requires { ⌜ Sized size (now raster) × Unbroken (areaIn size (now raster)) ⌝ }
     requires { ⌜ (count ≡ length (flashesOf (now list))) × (markRoom ≤ length (now «mark_room»)) ⌝ }
     ensures { λ r. ⌜ record { outcome = r; marksAfter = now («mark_room» .exit) } ≡ judged (areaIn size (now (raster .entry))) (size .width) (size .height) (flashesOf (now (list .entry))) (now («mark_room» .entry)) ⌝ }
 {

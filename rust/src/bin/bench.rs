@@ -1,5 +1,5 @@
 //! The exported cover beside the exported one by the plain search, beside the independent implementation of the same plain
-//! method, beside the quickest form written by hand, and beside plain row slices; the exported reader beside the independent one. All in one run and as code for one
+//! method, beside two forms written by hand, over bytes and as quick as could be over words, and beside plain row slices; the exported reader beside the independent one. All in one run and as code for one
 //! processor: where the exported functions run under an emulator, so do the others, and the plain method is then in C.
 //! Prints tables in Markdown.
 
@@ -19,7 +19,7 @@ const ENOUGH: Duration = Duration::from_millis(3);
 const PASSES: usize = 6;
 
 /// The times of a line.
-const COLUMNS: usize = 4;
+const COLUMNS: usize = 5;
 
 /// The processor's time of one call: doubles the number of calls until they take long enough.
 fn per_call(mut run: impl FnMut(u64) -> Duration) -> f64 {
@@ -55,7 +55,7 @@ fn of_engine(engine: Engine, numbers: (u64, u64, u64), raster: &[u8]) -> f64 {
     per_call(|times| ffi::time_cover(engine, times, numbers, raster))
 }
 
-/// One line of the table: its areas, and for each the best time yet of the cover, the cover by the plain search, the plain method and the form by hand.
+/// One line of the table: its areas, and for each the best time yet of the cover, the cover by the plain search, the plain method and the forms by hand.
 struct Line {
     family: Family,
     areas: Vec<(Area, [f64; COLUMNS])>,
@@ -76,28 +76,30 @@ impl Line {
                 of_engine(Engine::Exported, numbers, &area.raster),
                 of_engine(Engine::ExportedPlain, numbers, &area.raster),
                 of_plain(numbers, &area.raster),
+                of_engine(Engine::Bytes, numbers, &area.raster),
                 of_engine(Engine::Quick, numbers, &area.raster),
             ];
-            *best = [0, 1, 2, 3].map(|column| best[column].min(now[column]));
+            *best = [0, 1, 2, 3, 4].map(|column| best[column].min(now[column]));
         }
     }
 
-    /// Prints the line; gives the ratios of the cover to the plain method and to the form by hand.
-    fn print(&self) -> (f64, f64) {
-        let [cover, searched, plain, quick] = [0, 1, 2, 3]
+    /// Prints the line; gives the ratios of the cover to the plain method and to the forms by hand.
+    fn print(&self) -> [f64; 3] {
+        let [cover, searched, plain, bytes, quick] = [0, 1, 2, 3, 4]
             .map(|column| 1e6 / AREAS as f64 * self.areas.iter().map(|(_, best)| best[column]).sum::<f64>());
         let over_rows = |area: &Area| (0..area.height).map(|row| rules::slices(area, row).len()).sum::<usize>();
         let slices: usize = self.areas.iter().map(|(area, _)| over_rows(area)).sum();
         let least: usize = self.areas.iter().map(|(area, _)| rules::flashes(area).len()).sum();
         println!(
-            "| {} | {} | {cover:.2} | {searched:.2} | {plain:.2} | {quick:.2} | {:.2} | {:.0} | {slices} | {least} | {:.0}% |",
+            "| {} | {} | {cover:.2} | {searched:.2} | {plain:.2} | {bytes:.2} | {quick:.2} | {:.2} | {:.2} | {:.1} | {slices} | {least} | {:.0}% |",
             format!("{:?}", self.family).to_lowercase(),
             self.areas[0].0.width,
             cover / plain,
+            cover / bytes,
             cover / quick,
             100.0 * (slices - least) as f64 / slices as f64
         );
-        (cover / plain, cover / quick)
+        [cover / plain, cover / bytes, cover / quick]
     }
 }
 
@@ -106,16 +108,16 @@ fn covers() {
         FAMILIES.iter().flat_map(|&family| WIDTHS.map(|width| Line::new(family, width))).collect();
     (0..PASSES).for_each(|_| lines.iter_mut().for_each(Line::measure));
     let plain = if NATIVE { "plain, Rust" } else { "plain, C" };
-    println!("| family | columns | cover, µs | cover by the plain search, µs | {plain}, µs | by hand, C, µs | cover / plain | cover / by hand | row slices | least | saved |");
-    println!("|---|--:|--:|--:|--:|--:|--:|--:|--:|--:|--:|");
-    let (mut to_plain, mut to_quick): (f64, f64) = (0.0, 0.0);
+    println!("| family | columns | cover, µs | cover by the plain search, µs | {plain}, µs | bytes by hand, C, µs | words by hand, C, µs | cover / plain | cover / bytes | cover / words | row slices | least | saved |");
+    println!("|---|--:|--:|--:|--:|--:|--:|--:|--:|--:|--:|--:|--:|");
+    let mut largest = [0.0f64; 3];
     for line in &lines {
-        let (plain, quick) = line.print();
-        to_plain = to_plain.max(plain);
-        to_quick = to_quick.max(quick);
+        let ratios = line.print();
+        largest = [0, 1, 2].map(|column| largest[column].max(ratios[column]));
     }
     println!();
-    println!("Largest ratio of cover to plain: {to_plain:.2}; of cover to by hand: {to_quick:.0}.");
+    let [to_plain, to_bytes, to_words] = largest;
+    println!("Largest ratio of cover to plain: {to_plain:.2}; to bytes by hand: {to_bytes:.2}; to words by hand: {to_words:.1}.");
 }
 
 /// The widths at which one final set is measured, each twice the one before.

@@ -10,8 +10,7 @@ use Rattle.intervals.specs.Table.{setOf, tableOf}
 use Rattle.intervals.proofs.TableLaws.{set-table}
 use Rattle.cover.specs.Slices.{starting}
 use Rattle.cover.proofs.Starting.{starting-listed}
-use Rattle.cover.proofs.StartingByCell.{starting-tabled, starting-set}
-use Rattle.cover.proofs.MarkTurns.{width-tabled}
+use Rattle.cover.proofs.StartingByRow.{width-tabled, starting-tabled, starting-set}
 use Rattle.cover.proofs.Worked.{work-tabled}
 use Rattle.timed.proofs.final_size.Statement.{statement}
 use Rattle.timed.proofs.final_size.Tie as tie

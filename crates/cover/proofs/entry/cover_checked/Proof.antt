@@ -1,10 +1,13 @@
 -- `cover_checked` meets its contract: the checks in document 01's order, then the work.
 use mathlib.Core.Path.{sym, ap, _∙_}
+use native.Mathlib.Omega.{arith}
 use borrow.Author.Needs.{needs}
 use lib.ListN.{length}
 use Rattle.grid.specs.Code.{Sized}
 use Rattle.grid.specs.declared.answers.Answer.{Answer}
 use Rattle.grid.proofs.Chain.{chain-passed}
+use Rattle.columns.proofs.Filling.{filled-reached}
+use Rattle.columns.proofs.Whole.{passed-unbroken}
 use Rattle.cover.proofs.Checks.{Passed, sizes-passed}
 use Rattle.cover.proofs.Refusals.{gives-first, gives-second, gives-worked}
 use Rattle.cover.proofs.entry.cover_checked.Statement.{statement}
@@ -27,26 +30,34 @@ returns c =
     let t = c .before in
     gives-first _ _ _ _ _ _ (t .before .before .sizes-checked .ensures) (t .if1 .taken) (c .refused .ensures)
 
+columns-checked-requires : tie.Need-columns-checked-requires
+columns-checked-requires c κs = let z = sized (c .before .before) in (z, (omega (arith, z .narrow), omega (arith, z .narrow)))
+
 returns-2 : tie.Need-returns-2
 returns-2 c =
     let t = c .before in
-    let r = t .before .before in
-    let e = r .before in
-    gives-second _ _ _ _ _ _ (e .before .before .sizes-checked .ensures) (e .if1 .left) (r .raster-checked .ensures) (t .if2 .taken) (c .refused2 .ensures)
+    let r = t .before .before .before .before in
+    let e = r .before .before .before in
+    gives-second _ _ _ _ _ _ (e .before .before .sizes-checked .ensures) (e .if1 .left) (r .columns-checked .ensures .0) (t .if2 .taken) (c .refused2 .ensures)
 
-cover-area-requires : tie.Need-cover-area-requires
-cover-area-requires c κs =
-    let e = c .before .before .before .before .before in
+cover-columns-requires : tie.Need-cover-columns-requires
+cover-columns-requires c κs =
+    let t = c .before .before .before .before in
+    let r = t .before .before .before .before in
+    let e = r .before .before .before in
     let p = passed e in
-    (sized e, (p .allowance, p .flash-room, p .mark-room))
+    let z = sized e in
+    let F = r .columns-checked .ensures in
+    let whole = passed-unbroken _ _ _ (sym (ap (λ (a : Answer). a .number) (F .0)) ∙ t .if2 .left) in
+    (z, ((p .allowance, p .flash-room, p .mark-room), (whole, filled-reached _ _ _ (omega (arith, z .narrow)) (omega (arith, z .narrow)) (F .1 .0) (F .1 .1))))
 
 returns-3 : tie.Need-returns-3
 returns-3 c =
     let w = c .before .before .before .before in
-    let t = w .before .before .before in
-    let r = t .before .before in
-    let e = r .before in
-    gives-worked _ _ _ _ _ _ (e .before .before .sizes-checked .ensures) (e .if1 .left) (r .raster-checked .ensures) (t .if2 .left) (w .cover-area .ensures)
+    let t = w .before .before .before .before .before in
+    let r = t .before .before .before .before in
+    let e = r .before .before .before in
+    gives-worked _ _ _ _ _ _ (e .before .before .sizes-checked .ensures) (e .if1 .left) (r .columns-checked .ensures .0) (t .if2 .left) (w .cover-columns .ensures)
 
 pub cover-checked-spec : {M : Type 1} → statement M
 cover-checked-spec =
@@ -55,10 +66,14 @@ cover-checked-spec =
     (λ c κs. search needs)
     (λ c κs. search needs)
     returns
-    (λ c κs. sized c)
+    (λ c. search needs)
+    (λ c. search needs)
+    columns-checked-requires
     (λ c κs. search needs)
     returns-2
-    cover-area-requires
+    (λ c. search needs)
+    (λ c. search needs)
+    cover-columns-requires
     (λ c. search needs)
     (λ c. search needs)
     returns-3)

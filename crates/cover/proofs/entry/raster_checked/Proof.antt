@@ -1,44 +1,13 @@
--- `raster_checked` meets its contract: the two checks asked in turn are the chain.
-use mathlib.Core.Path.{_≡_, refl, ap, _∙_}
-use mathlib.Core.List.{[], _∷_}
-use mathlib.Core.Option.{Option, none, some}
+-- `raster_checked` meets its contract: it is the answer of the pass that takes bottoms and ends.
+use native.Mathlib.Omega.{arith}
 use borrow.Author.Needs.{needs}
-use Prim.Native.Nat.{ℕ}
-use Rattle.grid.specs.Squares.{Square}
-use Rattle.grid.specs.Answers.{checkAt, badByte, brokenColumn}
-use Rattle.grid.specs.Code.{areaIn, placeOf, squareIn}
-use Rattle.grid.specs.Raster.{badSquare, brokenSquare}
-use Rattle.grid.specs.declared.raster.Place.{Place}
-use Rattle.grid.proofs.Chain.{asked, in-turn, checkAt-plain}
-use Rattle.cover.specs.Code.{rasterChecks}
 use Rattle.cover.proofs.entry.raster_checked.Statement.{statement}
 use Rattle.cover.proofs.entry.raster_checked.Tie as tie
 
--- what was found, as a check
-found-check : (n : ℕ) (o : Option Square) {p : Place} → p ≡ placeOf o → checkAt (squareIn p) n ≡ checkAt o n
-found-check n o e = ap (λ (q : Place). checkAt (squareIn q) n) e ∙ ap (λ z. checkAt z n) (there o)
-  where
-    there : (z : Option Square) → squareIn (placeOf z) ≡ z
-    there none = refl
-    there (some s) = refl
-
-returns : tie.Need-returns
-returns c =
-    let b = c .before .before in
-    let g = b .before .before .before .before .args in
-    let bad = badSquare (g .size .width) (g .raster .now) in
-    let broken = brokenSquare (areaIn (g .size) (g .raster .now)) (g .size .width) (g .size .height) in
-    let one = asked [] (b .before .before .done .ensures) (b .found .ensures) (found-check badByte bad (b .before .bad-byte .ensures)) in
-    asked (_ ∷ []) one (c .found2 .ensures) (found-check brokenColumn broken (c .before .broken .ensures))
-    ∙ in-turn (rasterChecks (g .size .width) (g .size .height) (g .raster .now)) (checkAt-plain bad 6, (checkAt-plain broken 7, tt))
+columns-checked-requires : tie.Need-columns-checked-requires
+columns-checked-requires c κs = let z = c .before .before .before .pre in (z, (omega (arith, z .narrow), omega (arith, z .narrow)))
 
 pub raster-checked-spec : {M : Type 1} → statement M
 raster-checked-spec =
     tie.close
-    (tie.spec
-    (λ c κs. search needs)
-    (λ c κs. search needs)
-    (λ c κs. search needs)
-    (λ c κs. search needs)
-    (λ c κs. search needs)
-    returns)
+    (tie.spec (λ c. search needs) (λ c. search needs) columns-checked-requires (λ c. c .before .before .columns-checked .ensures .0))

@@ -1,31 +1,44 @@
--- `start_area` meets its contract: what is copied is the starting set, and its final set is what remains.
-use mathlib.Core.Path.{ap, _∙_}
+-- `start_area` meets its contract: the starting set, and of it the final set and the marks.
+use mathlib.Core.Path.{_≡_, ap, _∙_}
+use native.Mathlib.Omega.{arith}
 use borrow.Author.Needs.{needs}
 use Rattle.method.specs.Final.{final}
+use Rattle.method.specs.Strike.{marked}
 use Rattle.grid.proofs.Edges.{number}
 use Rattle.intervals.specs.Table.{setOf, tableOf}
-use Rattle.cover.proofs.StartingByCell.{starting-tabled, starting-set}
-use Rattle.cover.proofs.MarkTurns.{width-tabled}
+use Rattle.counts.specs.Marks.{notedFor}
+use Rattle.cover.proofs.StartingByRow.{width-tabled, starting-tabled, starting-set}
 use Rattle.cover.proofs.entry.start_area.Statement.{statement}
 use Rattle.cover.proofs.entry.start_area.Tie as tie
 
-final-copy-requires : tie.Need-final-copy-requires
-final-copy-requires c κs =
-    let t = c .before .before .before in
-    let s = t .before .before .before in
-    width-tabled (ap number (c .last-line .ensures)) (starting-tabled _ _ _ (s .pre .0 .narrow) (t .starting .ensures))
+final-marks-requires : tie.Need-final-marks-requires
+final-marks-requires c κs =
+    let l = c .before in
+    let t = l .before .before in
+    let s = t .before .before .before .before in
+    let e = ap number (l .last-line .ensures) in
+    (width-tabled e (starting-tabled _ _ _ (s .pre .0 .narrow) (t .starting .ensures)), omega (arith, s .pre .1 .1))
 
 returns : tie.Need-returns
 returns c =
-    let l = c .before in
-    let t = l .before .before .before in
-    let s = t .before .before .before in
-    let e = ap number (l .last-line .ensures) in (
-      t .starting .ensures,
-      c .final-copy .ensures
-          ∙ (λ z. tableOf (final (e z) (setOf (e z) (t .starting .last .1 .1 .0))))
-          ∙ ap (λ x. tableOf (final (s .args .size .width) x)) (starting-set _ _ _ (s .pre .0 .narrow) (t .starting .ensures)),
+    let f = c .before .before in
+    let l = f .before .before in
+    let t = l .before .before in
+    let s = t .before .before .before .before in
+    let g = s .args in
+    let w = g .size .width in
+    let e = ap number (l .last-line .ensures) in
+    let q = starting-set _ _ _ (s .pre .0 .narrow) (t .starting .ensures) in (
+      f .final-marks .ensures .0 ∙ ap (λ n. tableOf (final n (setOf n (t .starting .last .1 .1 .0)))) e ∙ ap (λ z. tableOf (final w z)) q,
+      f .final-marks .ensures .1 ∙ ap (λ n. notedFor (marked n (setOf n (t .starting .last .1 .1 .0))) (g .noted .now)) e ∙ ap (λ z. notedFor (marked w z) (g .noted .now)) q,
     )
 
 pub start-area-spec : {M : Type 1} → statement M
-start-area-spec = tie.close (tie.spec (λ c κs. search needs) (λ c κs. search needs) final-copy-requires returns)
+start-area-spec =
+    tie.close
+    (tie.spec
+    (λ c κs. search needs)
+    (λ c κs. search needs)
+    final-marks-requires
+    (λ c. search needs)
+    returns)

@@ -12,7 +12,7 @@ use Rattle.method.proofs.Sets.{bit}
 use Rattle.method.proofs.Boxes.{true-bit}
 use Rattle.grid.specs.Limits.{lines}
 use Rattle.intervals.specs.Table.{setOf, Tabled}
-use Rattle.intervals.specs.Sweep.{Kept}
+use Rattle.intervals.specs.Sweep.{LinesKept}
 use Rattle.intervals.proofs.TableLaws.{set-listed}
 use Rattle.intervals.proofs.ReduceRows.{byte-at}
 use Rattle.intervals.proofs.KeptTops.{Coming, coming-start, coming-hit, coming-miss, coming-end}
@@ -21,7 +21,7 @@ use Rattle.intervals.proofs.sweep.advance.Tie as tie
 
 -- of the set of any table: the line has come into the rows before l
 abbrev Going : List ℕ → List ℕ → List ℕ → ℕ → ℕ → List ℕ → List ℕ → Type 0
-Going t u₀ v₀ b l u v = (n : ℕ) → Tabled n t → b ≤ n → Kept (setOf n t) (b - 1) u₀ v₀ → Coming (setOf n t) b l u v
+Going t u₀ v₀ b l u v = (n : ℕ) → Tabled n t → b ≤ n → LinesKept (setOf n t) (b - 1) u₀ v₀ → Coming (setOf n t) b l u v
 
 -- the byte tells whether the row's interval ends at the line
 module _ {n : ℕ} {t : List ℕ} (T : Tabled n t) (l b : ℕ) (here : l < b) (short : b ≤ n) where

@@ -19,11 +19,11 @@ use Rattle.grid.specs.Limits.{lines}
 use Rattle.intervals.specs.declared.Found.the-variants.{Nothing}
 use Rattle.intervals.specs.declared.sweep.Held.{Held}
 use Rattle.intervals.specs.declared.sweep.Step.{Step}
-use Rattle.intervals.specs.declared.sweep.Step.the-variants.{Found as Hit, On}
+use Rattle.intervals.specs.declared.sweep.Step.the-variants.{Dependent as Hit, On}
 use Rattle.intervals.specs.Table.{setOf, foundOf}
 use Rattle.intervals.specs.Tops.{tops}
 use Rattle.intervals.specs.Search.{NoneBefore}
-use Rattle.intervals.specs.Sweep.{Swept, Told, Stepped, shortest, Kept}
+use Rattle.intervals.specs.Sweep.{Swept, Told, Stepped, shortest, LinesKept}
 use Rattle.intervals.proofs.TableLaws.{set-listed}
 use Rattle.intervals.proofs.KeptTops.{kept-small}
 use Rattle.intervals.proofs.SweepSteps.{lowest, swept-start}
@@ -43,7 +43,7 @@ module _ (n : ℕ) {s : List Span} (listed : Listed n s) (b : ℕ) where
 
   module _ {l : ℕ} {h : Held} (T : Turn s b l h) where
     -- what the step to the line before tells
-    module _ (z : 0 < l) (short : b < lines) {u v : List ℕ} (K : Kept s b u v) (r : Step) (step : Stepped (l - 1) (tops (getD u (l - 1) 0) (getD v (l - 1) 0)) h r) where
+    module _ (z : 0 < l) (short : b < lines) {u v : List ℕ} (K : LinesKept s b u v) (r : Step) (step : Stepped (l - 1) (tops (getD u (l - 1) 0) (getD v (l - 1) 0)) h r) where
       told : Told s (l - 1) b r
       told =
           let low = T .low in
@@ -72,7 +72,7 @@ abbrev μ-loop : tie.MeasureT-loop
 
 abbrev Inv-search : tie.InvT-search
 Inv-search t last firsts₀ seconds₀ right₀ firsts seconds right =
-    (right ≤ last .0) × Kept (setOf (last .0) t) right firsts seconds × NoneBefore (setOf (last .0) t) right
+    (right ≤ last .0) × LinesKept (setOf (last .0) t) right firsts seconds × NoneBefore (setOf (last .0) t) right
 
 abbrev μ-search : tie.MeasureT-search
 μ-search t last firsts₀ seconds₀ right₀ firsts seconds right = last .0 - right
@@ -140,7 +140,7 @@ advance-requires c κs =
     let at = c .before .before .before .before .before .before in
     let a = at .before .args in
     let e : at .search .right + 1 - 1 ≡ at .search .right = omega arith in
-    (at .before .pre .0, ((omega arith, omega arith), subst⁻¹ (λ b. Kept (setOf (a .last .0) (a .t .now)) b (at .search .firsts) (at .search .seconds)) e (at .search .inv .1)))
+    (at .before .pre .0, ((omega arith, omega arith), subst⁻¹ (λ b. LinesKept (setOf (a .last .0) (a .t .now)) b (at .search .firsts) (at .search .seconds)) e (at .search .inv .1)))
 
 search-less : tie.Need-search-less Inv-loop μ-loop Inv-search μ-search
 search-less c = omega arith

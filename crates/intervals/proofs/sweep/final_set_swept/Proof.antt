@@ -19,7 +19,7 @@ use Rattle.intervals.specs.Table.{setOf, tableOf, Tabled}
 use Rattle.intervals.specs.Tops.{tops}
 use Rattle.intervals.specs.Search.{NoneBefore}
 use Rattle.intervals.specs.Finished.{bracketBytes, Roomy}
-use Rattle.intervals.specs.Sweep.{TopTwo, Kept, KeptAt}
+use Rattle.intervals.specs.Sweep.{TopTwo, LinesKept, LinesKeptAt}
 use Rattle.intervals.proofs.TableLaws.{set-listed}
 use Rattle.intervals.proofs.FinishSteps.{none-found, some-found, OnWay, finished-long, found-room, found-lines, way-start, way-done, way-left, way-less, way-next}
 use Rattle.intervals.proofs.KeptTops.{two-none}
@@ -30,10 +30,10 @@ use Rattle.intervals.proofs.sweep.final_set_swept.Tie as tie
 record OnLine (n : ℕ) (w a t b : List ℕ) (k r : ℕ) (u v : List ℕ) : Type 0 where
   way : OnWay n w a t b k
   within : r ≤ n
-  kept : Kept (setOf n t) r u v
+  kept : LinesKept (setOf n t) r u v
   before : NoneBefore (setOf n t) r
 
-none-kept : (s : List Span) (m : ℕ) → m ≡ lines → Kept s 0 (replicate m 0) (replicate m 0)
+none-kept : (s : List Span) (m : ℕ) → m ≡ lines → LinesKept s 0 (replicate m 0) (replicate m 0)
 none-kept s m e =
     record {
       one = length-replicate m 0 ∙ e;
@@ -46,7 +46,7 @@ start {n} {t} T R =
     record { way = way-start T R; within = omega arith; kept = none-kept (setOf n t) lines refl; before = λ d h. omega arith }
 
 module _ {n : ℕ} {w a t b : List ℕ} {k r : ℕ} {u v : List ℕ} (W : OnLine n w a t b k r u v) {d : Span} (found : leftmost n (setOf n t) ≡ some d)
-    (t2 b2 u2 v2 : List ℕ) (e : t2 ≡ tableOf (reduce n (setOf n t) d)) (f : b2 ≡ written b (k * bracketRecord) (bracketBytes d)) (K : Kept (reduce n (setOf n t) d) (d .right) u2 v2) where
+    (t2 b2 u2 v2 : List ℕ) (e : t2 ≡ tableOf (reduce n (setOf n t) d)) (f : b2 ≡ written b (k * bracketRecord) (bracketBytes d)) (K : LinesKept (reduce n (setOf n t) d) (d .right) u2 v2) where
   next : OnLine n w a t2 b2 (k + 1) (d .right) u2 v2
   next =
       let M = leftmost-minimal n (setOf n t) found in
@@ -54,7 +54,7 @@ module _ {n : ℕ} {w a t b : List ℕ} {k r : ℕ} {u v : List ℕ} (W : OnLine
       record {
         way = way-next (W .way) found t2 b2 e f;
         within = M .1;
-        kept = subst⁻¹ (λ z. Kept z (d .right) u2 v2) is K;
+        kept = subst⁻¹ (λ z. LinesKept z (d .right) u2 v2) is K;
         before = subst⁻¹ (λ z. NoneBefore z (d .right)) is
             (λ i h. leftmost-least n (setOf n t) found i (reduce-no-new n (setOf n t) d (set-listed n t) (M .0) i h));
       }
@@ -101,7 +101,7 @@ reduce-kept-requires c κs =
     let s = setOf n (at .loop .t) in
     let B = f .before .before .bracket-from in (
       at .loop .inv .way .table,
-      (leftmost-minimal n s (found f) .1, subst (λ r. KeptAt s r (B .last .1 .1 .1 .0) (B .last .1 .1 .1 .1 .0)) (f .d .given .1) (B .ensures .1)),
+      (leftmost-minimal n s (found f) .1, subst (λ r. LinesKeptAt s r (B .last .1 .1 .1 .0) (B .last .1 .1 .1 .1 .0)) (f .d .given .1) (B .ensures .1)),
     )
 
 add-reductions : tie.Need-add-reductions Inv-loop μ-loop

@@ -12,7 +12,7 @@ use Rattle.grid.specs.Lines.{line, spanOf, meetOf}
 use Rattle.grid.specs.declared.lines.Line.{Line}
 use Rattle.grid.specs.declared.lines.Interval.{Interval}
 use Rattle.intervals.specs.declared.dependent.Tops.{Tops}
-use Rattle.intervals.specs.Sweep.{TopTwo, Kept, Lowered, givenWay}
+use Rattle.intervals.specs.Sweep.{TopTwo, LinesKept, Lowered, givenWay}
 use Rattle.intervals.specs.Table.{setOf, tableOf, Tabled, with, without}
 use Rattle.intervals.proofs.TableLaws.{set-listed, left-as, changed-listed}
 use Rattle.intervals.proofs.KeptTops.{kept-small, way-lowered, way-kept}
@@ -37,7 +37,7 @@ module _ {n : ℕ} {t : List ℕ} (T : Tabled n t) (i j over : Interval) (e : ov
   ends : (p : Line) → p ≡ line (cond (proper (spanOf over)) (over .right .0) 0) → p .0 ≡ cond (proper (meet (spanOf i) (spanOf j))) (meet (spanOf i) (spanOf j) .right) 0
   ends p q = ap (λ (z : Line). z .0) q ∙ ap (λ (z : Interval). cond (proper (spanOf z)) (z .right .0) 0) e
 
-  module _ {b : ℕ} {u v : List ℕ} (K : Kept (setOf n t) b u v) (short : b ≤ n)
+  module _ {b : ℕ} {u v : List ℕ} (K : LinesKept (setOf n t) b u v) (short : b ≤ n)
       (rise : (i .left .0 ≤ j .left .0) × (i .right .0 < j .right .0) × (j .left .0 < lines)) (first : getD u (j .left .0) 0 ≡ j .right .0) where
     asks : (p : Line) → p ≡ line (cond (proper (spanOf over)) (over .right .0) 0) → Lowered (setOf n t2) (j .left .0) b (getD v (j .left .0) 0) (p .0)
     asks p q =
@@ -45,7 +45,7 @@ module _ {n : ℕ} {t : List ℕ} (T : Tabled n t) (i j over : Interval) (e : ov
         (way-lowered n (set-listed n t) (spanOf i) (spanOf j) K short rise first (p .0) (ends p q))
 
     keeps : (r : Tops) → TopTwo (setOf n t2) (j .left .0) b r
-        → Kept (givenWay n (spanOf i) (spanOf j) (setOf n t)) b (set u (j .left .0) (r .greater .0)) (set v (j .left .0) (r .lesser .0))
+        → LinesKept (givenWay n (spanOf i) (spanOf j) (setOf n t)) b (set u (j .left .0) (r .greater .0)) (set v (j .left .0) (r .lesser .0))
     keeps r G =
         way-kept n (set-listed n t) (spanOf i) (spanOf j) K short rise first r (subst (λ z. TopTwo z (j .left .0) b r) (two .1) G)
 

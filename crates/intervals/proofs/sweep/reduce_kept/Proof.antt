@@ -13,7 +13,7 @@ use Rattle.grid.specs.Limits.{lines}
 use Rattle.grid.specs.Lines.{spanOf}
 use Rattle.intervals.specs.Table.{setOf, tableOf, with, without}
 use Rattle.intervals.specs.Reach.{reach}
-use Rattle.intervals.specs.Sweep.{Kept, givenWay}
+use Rattle.intervals.specs.Sweep.{LinesKept, givenWay}
 use Rattle.intervals.proofs.TableLaws.{left-as, changed-listed}
 use Rattle.intervals.proofs.ReduceTurns.{Turn, start, level, jump, finish}
 use Rattle.intervals.proofs.KeptTops.{kept-small, two-reach}
@@ -23,7 +23,7 @@ use Rattle.intervals.proofs.sweep.reduce_kept.Tie as tie
 -- a turn of the reduction of (a, b) in the table w, with the lines kept
 record KeptTurn (n a b : ℕ) (w : List ℕ) (l : ℕ) (t : List ℕ) (o : Span) (u v : List ℕ) : Type 0 where
   turn : Turn n a b w l t o
-  kept : Kept (setOf n t) b u v
+  kept : LinesKept (setOf n t) b u v
 
 module _ {n a b : ℕ} {w : List ℕ} {l : ℕ} {t : List ℕ} {o : Span} {u v : List ℕ} (short : b ≤ n) (here : l < b) (T : KeptTurn n a b w l t o u v) where
   few : l < lines
@@ -40,7 +40,7 @@ module _ {n a b : ℕ} {w : List ℕ} {l : ℕ} {t : List ℕ} {o : Span} {u v :
       }
 
   gives : o .right < getD u l 0 → (t2 u2 v2 : List ℕ) → t2 ≡ tableOf (givenWay n o (span l (getD u l 0)) (setOf n t))
-      → Kept (givenWay n o (span l (getD u l 0)) (setOf n t)) b u2 v2 → KeptTurn n a b w (l + 1) t2 (span l (getD u l 0)) u2 v2
+      → LinesKept (givenWay n o (span l (getD u l 0)) (setOf n t)) b u2 v2 → KeptTurn n a b w (l + 1) t2 (span l (getD u l 0)) u2 v2
   gives h t2 u2 v2 e K =
       let j = span l (getD u l 0) in
       let rest = without n j (setOf n t) in
@@ -51,7 +51,7 @@ module _ {n a b : ℕ} {w : List ℕ} {l : ℕ} {t : List ℕ} {o : Span} {u v :
         turn =
             jump (T .turn) (getD u l 0) (sym (reaches (o .right) ∙ omega arith)) here h (tableOf rest) t2 refl
             (e ∙ ap (λ z. tableOf (with n (meet o j) z)) (sym (one .1)));
-        kept = subst⁻¹ (λ z. Kept z b u2 v2) (two .1) K;
+        kept = subst⁻¹ (λ z. LinesKept z b u2 v2) (two .1) K;
       }
 
 abbrev Inv-loop : tie.InvT-loop
@@ -62,11 +62,11 @@ abbrev μ-loop : tie.MeasureT-loop
 
 -- past the last row
 over : {n a b : ℕ} {w : List ℕ} {l : ℕ} {t : List ℕ} {o : Span} {u v : List ℕ} → KeptTurn n a b w l t o u v → b ≤ l
-    → (t ≡ tableOf (reduce n (setOf n w) (span a b))) × Kept (reduce n (setOf n w) (span a b)) b u v
+    → (t ≡ tableOf (reduce n (setOf n w) (span a b))) × LinesKept (reduce n (setOf n w) (span a b)) b u v
 over {n} {a} {b} {w} {l} {t} {o} {u} {v} T h =
     let e = finish (T .turn) h in
     let is = left-as n (reduce n (setOf n w) (span a b)) (T .turn .table .fits) (reduce-listed n (setOf n w) (span a b)) e in
-    (e, subst (λ z. Kept z b u v) (is .1) (T .kept))
+    (e, subst (λ z. LinesKept z b u v) (is .1) (T .kept))
 
 loop-holds : tie.Need-loop-holds Inv-loop μ-loop
 loop-holds c =

@@ -6,6 +6,7 @@ use Rattle.grid.specs.Limits.{flashRoom}
 use Rattle.grid.specs.Code.{Sized}
 use Rattle.grid.specs.declared.answers.Answer.{Answer}
 use Rattle.grid.proofs.Chain.{chain-passed}
+use Rattle.columns.proofs.Whole.{passed-unbroken}
 use Rattle.cover.proofs.Checks.{Passed, sizes-passed}
 use Rattle.listcheck.specs.declared.lines.Lines.{Lines}
 use Rattle.listcheck.proofs.Refusals.{gives-first, gives-second, gives-third, gives-judged}
@@ -46,8 +47,11 @@ returns-3 c =
 judge-requires : tie.Need-judge-requires
 judge-requires c κs =
     let n = c .before .before .before .before in
-    let e = n .before .before .before .before in
-    (sized e, (ap (λ (l : Lines). l .count) (n .count-lines .ensures), passed e .mark-room))
+    let u = n .before in
+    let r = u .before .before in
+    let e = r .before in
+    let whole = passed-unbroken _ _ _ (sym (ap (λ (a : Answer). a .number) (r .raster-checked .ensures)) ∙ u .if2 .left) in
+    ((sized e, whole), (ap (λ (l : Lines). l .count) (n .count-lines .ensures), passed e .mark-room))
 
 returns-4 : tie.Need-returns-4
 returns-4 c =

@@ -11,13 +11,13 @@ sub-t15 : tie.Need-sub-t15
 sub-t15 c =
     let v = c .before .before .before .before in
     let s = v .before .before .before .before .before in
-    omega (arith, least-count _ _ _ (s .pre .0 .narrow) (replicate flashRoom 0) (s .args .mark-room .now) (v .cover-area .ensures), s .pre .1 .0)
+    omega (arith, least-count _ _ _ (s .pre .0 .0 .narrow) (replicate flashRoom 0) (s .args .mark-room .now) (v .cover-area .ensures), s .pre .1 .0)
 
 returns : tie.Need-returns
 returns c =
     let v = c .before .before .before .before in
     let s = v .before .before .before .before .before in
-    weighed _ _ _ (s .args .count) (s .pre .0 .narrow) (replicate flashRoom 0) (s .args .mark-room .now) (v .cover-area .ensures)
+    weighed _ _ _ (s .args .count) (s .pre .0 .0 .narrow) (replicate flashRoom 0) (s .args .mark-room .now) (v .cover-area .ensures)
 
 pub weigh-spec : {M : Type 1} → statement M
 weigh-spec =

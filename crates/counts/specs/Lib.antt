@@ -1,0 +1,4 @@
+pub mod Spans
+pub mod Tally
+pub mod Marks
+pub mod Plain

@@ -80,6 +80,7 @@ enum {
     KEEKABOOR_FILE_ROOM_SHORT = 15,
     KEEKABOOR_LIST_LINE = 16,      /* a line of a list is not as ruled; place: its number, counted from 1, and 0 */
     KEEKABOOR_LIST_LONG = 17,      /* a list has over 1,024 flashes */
+    KEEKABOOR_VERSION = 21,        /* the version is not 1 or 2 */
     KEEKABOOR_FILE_LINE = 30       /* a line of a Gerber file is not as ruled; place: its number, counted from 1, and 0 */
 };
 
@@ -196,19 +197,20 @@ struct keekaboor_gerber_outcome {
 
 /*
  * Covers an area and writes the cover as a Gerber file: millimetres, format 4.6, a rectangular aperture for each distinct
- * size of a flash, numbered from D10 in order of first use, and each flash at the centre of its rectangle. The pitch of the
- * grid is an even number of nanometres, 2 to 1,000,000; x and y, in nanometres, are the bottom left corner of square (0, 0),
- * on either side of panel zero. On success flash_room and mark_room are as keekaboor_cover leaves them, and file_room begins
- * with the file, of `length` bytes and without a closing 0.
+ * size of a flash, numbered from D10 in order of first use, and each flash at the centre of its rectangle. In version 2 its
+ * first line is an X2 attribute command; in version 1, for machines that stop at these, it is a comment with the same words,
+ * and no other line differs. The pitch of the grid is an even number of nanometres, 2 to 1,000,000; x and y, in nanometres,
+ * are the bottom left corner of square (0, 0), on either side of panel zero. On success flash_room and mark_room are as
+ * keekaboor_cover leaves them, and file_room begins with the file, of `length` bytes and without a closing 0.
  *
- * Refusals, the first that applies: those of keekaboor_cover (9 writes its marks), 13, 14, 15. With 13, 14 and 15 the cover's
- * rooms stay as they were too.
+ * Refusals, the first that applies: those of keekaboor_cover (9 writes its marks), 21, 13, 14, 15. With these four the
+ * cover's rooms stay as they were too.
  */
 struct keekaboor_gerber_outcome keekaboor_write_gerber(uint64_t width, uint64_t height, uint64_t allowance,
                                                        const uint8_t *raster, size_t raster_len,
                                                        uint8_t *flash_room, size_t flash_len,
                                                        uint8_t *mark_room, size_t mark_len,
-                                                       uint64_t pitch, int64_t x, int64_t y,
+                                                       uint64_t version, uint64_t pitch, int64_t x, int64_t y,
                                                        uint8_t *file_room, size_t file_len);
 
 /* What keekaboor_read_gerber returns. */
@@ -222,12 +224,13 @@ struct keekaboor_gerber_read_outcome {
  * Reads a Gerber file back that was written with this pitch and this origin: on success flash_room begins with the records
  * of its flashes, in the file's order, which may be any. A file is accepted only in the form that keekaboor_write_gerber
  * gives to its flashes, 64 of them at most, each on the grid of 64 by 64 squares; that they cover an area is not asked.
+ * Under either version the first line may be that of either.
  *
- * Refusals, the first that applies: 3, 13, 30. Each line is judged by those before it. A missing `M02*` is told under the
- * number that its line would have, text after it and a last line without line feed under their own.
+ * Refusals, the first that applies: 3, 21, 13, 30. Each line is judged by those before it. A missing `M02*` is told under
+ * the number that its line would have, text after it and a last line without line feed under their own.
  */
 struct keekaboor_gerber_read_outcome keekaboor_read_gerber(const uint8_t *text, size_t text_len,
-                                                           uint64_t pitch, int64_t x, int64_t y,
+                                                           uint64_t version, uint64_t pitch, int64_t x, int64_t y,
                                                            uint8_t *flash_room, size_t flash_len);
 
 #ifdef __cplusplus

@@ -2,7 +2,7 @@
  * The far side of the boundary, for tests on a machine that is not x86-64: answers calls that
  * src/ffi.rs sends over standard input, with the exported functions and those written by hand linked in.
  *
- * A request is thirteen numbers (function, times, six arguments, the size of each of four buffers, and
+ * A request is fourteen numbers (function, times, seven arguments, the size of each of four buffers, and
  * how many guard bytes each has at either end), then the four buffers' bytes. The answer is the
  * outcome's eight numbers, the nanoseconds of the processor that the calls took, and the four buffers as they are now.
  */
@@ -17,7 +17,7 @@
 enum { READ_JOB, WRITE_JOB, CHECK, WRITE_GERBER, READ_GERBER, FINAL_SETS, PLAIN_FINAL_SETS, COVERS };
 
 /* How many fields the longest outcome has, and how many numbers and buffers the call with the most of them takes. */
-enum { NUMBERS = 8, ARGUMENTS = 6, BUFFERS = 4 };
+enum { NUMBERS = 8, ARGUMENTS = 7, BUFFERS = 4 };
 
 /* The covers, whose numbers follow. */
 static struct keekaboor_outcome (*const covers[])(uint64_t, uint64_t, uint64_t, const uint8_t *, size_t, uint8_t *, size_t,
@@ -87,14 +87,14 @@ static void call(const struct request *r, uint8_t *const buffer[BUFFERS], uint64
     case WRITE_GERBER: {
         struct keekaboor_gerber_outcome o =
             keekaboor_write_gerber(n[0], n[1], n[2], buffer[0], size[0], buffer[1], size[1], buffer[2], size[2], n[3],
-                                   (int64_t)n[4], (int64_t)n[5], buffer[3], size[3]);
+                                   n[4], (int64_t)n[5], (int64_t)n[6], buffer[3], size[3]);
         uint64_t all[NUMBERS] = {o.answer, o.place_x, o.place_y, o.flashes, o.marks, o.copper, o.flashed, o.length};
         memcpy(outcome, all, sizeof all);
         break;
     }
     case READ_GERBER: {
-        struct keekaboor_gerber_read_outcome o = keekaboor_read_gerber(buffer[0], size[0], n[3], (int64_t)n[4],
-                                                                       (int64_t)n[5], buffer[1], size[1]);
+        struct keekaboor_gerber_read_outcome o = keekaboor_read_gerber(buffer[0], size[0], n[3], n[4],
+                                                                       (int64_t)n[5], (int64_t)n[6], buffer[1], size[1]);
         uint64_t all[NUMBERS] = {o.answer, o.place_x, o.place_y, o.flashes};
         memcpy(outcome, all, sizeof all);
         break;

@@ -172,7 +172,7 @@ mod linked {
         file_room: &mut [u8],
     ) -> GerberOutcome {
         let mut lent = lend(&[raster, flash_room, mark_room, file_room]);
-        let numbers = padded(&[width, height, allowance, frame.pitch, frame.x as u64, frame.y as u64]);
+        let numbers = padded(&[width, height, allowance, frame.version, frame.pitch, frame.x as u64, frame.y as u64]);
         let reply = call(&Request { function: Function::WriteGerber, numbers, times: 1 }, &mut lent);
         lent[0].unchanged("the raster", raster);
         lent[1].copy_back("the flash room", flash_room);
@@ -184,7 +184,7 @@ mod linked {
     /// A Gerber file read back.
     pub fn read_gerber(text: &[u8], frame: Frame, flash_room: &mut [u8]) -> GerberReadOutcome {
         let mut lent = lend(&[text, flash_room]);
-        let numbers = padded(&[0, 0, 0, frame.pitch, frame.x as u64, frame.y as u64]);
+        let numbers = padded(&[0, 0, 0, frame.version, frame.pitch, frame.x as u64, frame.y as u64]);
         let reply = call(&Request { function: Function::ReadGerber, numbers, times: 1 }, &mut lent);
         lent[0].unchanged("the file", text);
         lent[1].copy_back("the flash room", flash_room);
@@ -225,7 +225,7 @@ mod linked {
     }
 
     /// How many numbers and how many buffers the call with the most of them takes.
-    pub(super) const ARGUMENTS: usize = 6;
+    pub(super) const ARGUMENTS: usize = 7;
     pub(super) const BUFFERS: usize = 4;
 
     pub(super) struct Request {
@@ -384,6 +384,7 @@ mod direct {
             flash_len: usize,
             mark_room: *mut u8,
             mark_len: usize,
+            version: u64,
             pitch: u64,
             x: i64,
             y: i64,
@@ -393,6 +394,7 @@ mod direct {
         fn keekaboor_read_gerber(
             text: *const u8,
             text_len: usize,
+            version: u64,
             pitch: u64,
             x: i64,
             y: i64,
@@ -415,7 +417,7 @@ mod direct {
         // The four are separate allocations, so they do not overlap, and each has GUARD bytes before the lent part.
         let (a, b) = (a.whole[GUARD..].as_ptr(), b.whole[GUARD..].as_mut_ptr());
         let (c, d) = (c.whole[GUARD..].as_mut_ptr(), d.whole[GUARD..].as_mut_ptr());
-        let [x, y, z, pitch, east, north] = request.numbers;
+        let [x, y, z, version, pitch, east, north] = request.numbers;
         let (east, north) = (east as i64, north as i64);
         let mut numbers: [u64; NUMBERS] = padded(&[]);
         let start = clock::now();
@@ -447,12 +449,12 @@ mod direct {
                     }
                     Function::WriteGerber => {
                         let o = keekaboor_write_gerber(
-                            x, y, z, a, len[0], b, len[1], c, len[2], pitch, east, north, d, len[3],
+                            x, y, z, a, len[0], b, len[1], c, len[2], version, pitch, east, north, d, len[3],
                         );
                         [o.answer, o.place_x, o.place_y, o.flashes, o.marks, o.copper, o.flashed, o.length]
                     }
                     Function::ReadGerber => {
-                        let o = keekaboor_read_gerber(a, len[0], pitch, east, north, b, len[1]);
+                        let o = keekaboor_read_gerber(a, len[0], version, pitch, east, north, b, len[1]);
                         padded(&[o.answer, o.place_x, o.place_y, o.flashes])
                     }
                     Function::FinalSets { plain } => padded(&[timed_final_sets(x, y, a, len[0], plain.into(), z)]),

@@ -1,4 +1,4 @@
-//! An independent writer and reader of Gerber files: document 02's R-2, over whole lines.
+//! An independent writer and reader of Gerber files: document 02's, over whole lines.
 //! Coordinates are 128 bit, so that nothing has to be said about overflow.
 
 use crate::ffi::Outcome;
@@ -12,9 +12,10 @@ const TEN_DIGITS: i128 = 9_999_999_999;
 /// First column, last column, bottom row, top row.
 pub type Flash = [u8; 4];
 
-/// The pitch, and the origin: the bottom left corner of square (0, 0).
+/// The version, the pitch, and the origin: the bottom left corner of square (0, 0).
 #[derive(Clone, Copy, Debug)]
 pub struct Frame {
+    pub version: u64,
     pub pitch: u64,
     pub x: i64,
     pub y: i64,
@@ -22,6 +23,9 @@ pub struct Frame {
 
 impl Frame {
     fn checked(self) -> Result<Frame, Refusal> {
+        if !matches!(self.version, 1 | 2) {
+            return Err((21, 0, 0));
+        }
         let good = (2..=1_000_000).contains(&self.pitch) && self.pitch % 2 == 0;
         good.then_some(self).ok_or((13, 0, 0))
     }
@@ -51,13 +55,17 @@ fn aperture_line(pitch: u64, number: usize, (wide, high): (u8, u8)) -> String {
     format!("%ADD{number}R,{}X{}*%\n", length(wide), length(high))
 }
 
-fn head_lines() -> [&'static str; 3] {
-    ["%TF.FileFunction,Copper,L1,Top*%\n", "%FSLAX46Y46*%\n", "%MOMM*%\n"]
+fn head_lines(version: u64) -> [&'static str; 3] {
+    let first = match version {
+        1 => "G04 #@! TF.FileFunction,Copper,L1,Top*\n",
+        _ => "%TF.FileFunction,Copper,L1,Top*%\n",
+    };
+    [first, "%FSLAX46Y46*%\n", "%MOMM*%\n"]
 }
 
 /// The lines before the apertures.
-pub fn head() -> String {
-    head_lines().concat()
+pub fn head(version: u64) -> String {
+    head_lines(version).concat()
 }
 
 /// The file of a list of flashes.
@@ -68,7 +76,7 @@ pub fn written(frame: Frame, flashes: &[Flash]) -> String {
             sizes.push(size(flash));
         }
     }
-    let mut text = head();
+    let mut text = head(frame.version);
     for (k, &of) in sizes.iter().enumerate() {
         text += &aperture_line(frame.pitch, 10 + k, of);
     }
@@ -90,7 +98,7 @@ pub struct Written {
     pub file: String,
 }
 
-/// All that the cover does, then 13, 14, 15.
+/// All that the cover does, then 21, 13, 14, 15.
 pub fn write(
     numbers: (u64, u64, u64),
     raster: &[u8],
@@ -170,7 +178,8 @@ impl Before {
         }
         if self.heads < 3 {
             self.heads += 1;
-            return line == head_lines()[self.heads - 1];
+            // under either version the first line may be that of either
+            return [1, 2].iter().any(|&version| line == head_lines(version)[self.heads - 1]);
         }
         self.aperture(text, frame)
             .or_else(|| self.select(text))
@@ -228,7 +237,7 @@ fn edges(centre: i128, origin: i64, squares: u8, pitch: u64) -> Option<(u8, u8)>
     (twice >= 0 && twice % step == 0 && last < GRID as i128).then_some((first as u8, last as u8))
 }
 
-/// Reading a file back: 3, 13, then 30 with its line.
+/// Reading a file back: 3, 21, 13, then 30 with its line.
 pub fn read(text: &[u8], frame: Frame, flash_room: usize) -> Result<Vec<Flash>, Refusal> {
     if flash_room < rules::FLASH_ROOM {
         return Err((3, 0, 0));

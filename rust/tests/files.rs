@@ -5,7 +5,9 @@ use keekaboor_tests::areas::Random;
 use keekaboor_tests::gerber::{read, written, Flash, Frame};
 use keekaboor_tests::rules::FLASH_ROOM;
 
-const FRAME: Frame = Frame { pitch: 1_000_000, x: 0, y: 0 };
+const FRAME: Frame = Frame { version: 2, pitch: 1_000_000, x: 0, y: 0 };
+const ATTRIBUTE: &str = "%TF.FileFunction,Copper,L1,Top*%\n";
+const COMMENT: &str = "G04 #@! TF.FileFunction,Copper,L1,Top*\n";
 const HEAD: &str = "%TF.FileFunction,Copper,L1,Top*%\n%FSLAX46Y46*%\n%MOMM*%\n";
 const FIRST: &str = "%ADD10R,3.000000X1.000000*%\n";
 const SECOND: &str = "%ADD11R,1.000000X3.000000*%\n";
@@ -24,6 +26,9 @@ fn each_rule_broken_in_turn() {
     let plus = format!("{HEAD}{FIRST}{SECOND}D10*\n{CENTRE}D11*\n{CENTRE}M02*\n");
     assert_eq!(line_of(&plus), None);
     assert_eq!(plus, written(FRAME, &[[0, 2, 1, 1], [1, 1, 0, 2]]));
+    let comment = plus.replacen(ATTRIBUTE, COMMENT, 1);
+    assert_eq!(line_of(&comment), None);
+    assert_eq!(comment, written(Frame { version: 1, ..FRAME }, &[[0, 2, 1, 1], [1, 1, 0, 2]]));
     let swapped = |from: &str, to: &str| {
         assert!(plus.contains(from), "{from:?}");
         plus.replacen(from, to, 1)
@@ -32,6 +37,8 @@ fn each_rule_broken_in_turn() {
     let cases = [
         ("empty text", String::new(), 1),
         ("another head", swapped("Copper", "Legend"), 1),
+        ("a comment with percent signs", swapped(ATTRIBUTE, "G04 #@! %TF.FileFunction,Copper,L1,Top*%\n"), 1),
+        ("both first lines", swapped(ATTRIBUTE, &format!("{COMMENT}{ATTRIBUTE}")), 2),
         ("another format", swapped("46Y46", "35Y35"), 2),
         ("inches", swapped("MOMM", "MOIN"), 3),
         ("an aperture out of number", swapped("ADD11", "ADD12"), 5),
@@ -87,7 +94,10 @@ fn a_65th_flash_and_a_65th_aperture() {
 
 #[test]
 fn other_refusals_come_first() {
-    assert_eq!(read(b"", Frame { pitch: 1, ..FRAME }, FLASH_ROOM - 1), Err((3, 0, 0)));
+    assert_eq!(read(b"", Frame { version: 0, pitch: 1, ..FRAME }, FLASH_ROOM - 1), Err((3, 0, 0)));
+    for version in [0, 3, 21, u64::MAX] {
+        assert_eq!(read(b"", Frame { version, pitch: 1, ..FRAME }, FLASH_ROOM), Err((21, 0, 0)));
+    }
     for pitch in [0, 1, 3, 1_000_001, 1_000_002] {
         assert_eq!(read(b"", Frame { pitch, ..FRAME }, FLASH_ROOM), Err((13, 0, 0)));
     }
@@ -106,8 +116,10 @@ fn what_is_written_is_read_back() {
         let flashes: Vec<Flash> = (0..count).map(|_| (side(), side())).map(|((a, b), (c, d))| [a, b, c, d]).collect();
         let pitch = 2 * (1 + random.number() % 500_000);
         let mut origin = || (random.number() % 19_000_000_000) as i64 - 9_999_999_999;
-        let frame = Frame { pitch, x: origin(), y: origin() };
+        let frame = Frame { version: 1 + count as u64 % 2, pitch, x: origin(), y: origin() };
         let text = written(frame, &flashes);
-        assert_eq!(read(text.as_bytes(), frame, FLASH_ROOM), Ok(flashes));
+        for version in [1, 2] {
+            assert_eq!(read(text.as_bytes(), Frame { version, ..frame }, FLASH_ROOM), Ok(flashes.clone()));
+        }
     }
 }

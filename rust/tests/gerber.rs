@@ -69,7 +69,7 @@ fn plus() -> Area {
 
 #[test]
 fn the_plus_has_document_02s_three_lines() {
-    let frame = Frame { pitch: 1_000_000, x: 0, y: 0 };
+    let frame = Frame { version: 2, pitch: 1_000_000, x: 0, y: 0 };
     let written = compare((3, 3, 64), &plus().raster, frame, ROOMS);
     for line in ["%ADD10R,3.000000X1.000000*%\n", "\nD10*\n", "\nX1500000Y1500000D03*\n"] {
         assert!(written.file.contains(line), "{line:?}");
@@ -77,8 +77,29 @@ fn the_plus_has_document_02s_three_lines() {
     assert_eq!(compare_read(written.file.as_bytes(), frame, FLASH_ROOM), Ok(vec![[0, 2, 1, 1], [1, 1, 0, 2]]));
 }
 
-/// A pitch and an origin: common ones, the ends, and beside them.
+#[test]
+fn the_versions_differ_in_their_first_line() {
+    let mut random = Random::new(0x6730_34);
+    for _ in 0..2_000 {
+        let (width, height) = (random.from_to(1, 64), random.from_to(1, 64));
+        let (area, frame) = (spans(&mut random, width, height), good_frame(&mut random));
+        let [comment, attribute] = [1, 2].map(|version| {
+            let written = compare((width as u64, height as u64, 64), &area.raster, Frame { version, ..frame }, ROOMS);
+            assert_eq!(written.covered.outcome.answer, 0);
+            written.file
+        });
+        let (first, rest) = comment.split_once('\n').unwrap();
+        assert_eq!(first, "G04 #@! TF.FileFunction,Copper,L1,Top*");
+        assert_eq!(attribute.split_once('\n'), Some(("%TF.FileFunction,Copper,L1,Top*%", rest)));
+    }
+}
+
+/// A version, a pitch and an origin: common ones, the ends, and beside them.
 fn any_frame(random: &mut Random) -> Frame {
+    let version = match random.below(8) {
+        0 => [0, 1, 2, 3, 21, u64::MAX][random.below(6)],
+        _ => known_version(random),
+    };
     let pitch = match random.below(8) {
         0 => [0, 1, 2, 3, 1_000_000, 1_000_001, 1_000_002, u64::MAX][random.below(8)],
         1 => random.number() % 2_000_000,
@@ -92,18 +113,23 @@ fn any_frame(random: &mut Random) -> Frame {
         _ => (random.number() % 20_000_000_000) as i64 - 10_000_000_000,
     };
     let (x, y) = (origin(), origin());
-    Frame { pitch, x, y }
+    Frame { version, pitch, x, y }
+}
+
+fn known_version(random: &mut Random) -> u64 {
+    1 + random.below(2) as u64
 }
 
 /// One with which every file can be written.
 fn good_frame(random: &mut Random) -> Frame {
+    let version = known_version(random);
     let pitch = match random.below(4) {
         0 => [2, 4, 1_000_000, 999_998][random.below(4)],
         _ => 2 * (1 + random.number() % 500_000),
     };
     let mut origin = || (random.number() % 19_900_000_000) as i64 - 9_999_999_999;
     let (x, y) = (origin(), origin());
-    Frame { pitch, x, y }
+    Frame { version, pitch, x, y }
 }
 
 fn spans(random: &mut Random, width: usize, height: usize) -> Area {
@@ -130,10 +156,13 @@ fn areas_written_and_read_back() {
         *answers.entry(written.covered.outcome.answer).or_insert(0) += 1;
         if written.covered.outcome.answer == 0 {
             let flashes: Vec<Flash> = written.covered.flashes.chunks(4).map(|r| r.try_into().unwrap()).collect();
-            assert_eq!(compare_read(written.file.as_bytes(), frame, FLASH_ROOM), Ok(flashes));
+            for version in [1, 2] {
+                let read = compare_read(written.file.as_bytes(), Frame { version, ..frame }, FLASH_ROOM);
+                assert_eq!(read, Ok(flashes.clone()));
+            }
         }
     }
-    for answer in [0, 3, 4, 6, 9, 13, 14, 15] {
+    for answer in [0, 3, 4, 6, 9, 13, 14, 15, 21] {
         assert!(answers.get(&answer).copied().unwrap_or(0) > 20, "{answer}: {answers:?}");
     }
 }
@@ -157,7 +186,7 @@ fn files_sound_and_damaged() {
         let sound = gerber::written(frame, &any_flashes(&mut random));
         let (name, text) = damage::damaged(&mut random, k, frame.pitch, &sound);
         let (sound, refused) = told.entry(name).or_insert((0, 0));
-        match compare_read(&text, frame, FLASH_ROOM) {
+        match compare_read(&text, Frame { version: known_version(&mut random), ..frame }, FLASH_ROOM) {
             Ok(_) => *sound += 1,
             Err(_) => *refused += 1,
         }
@@ -172,18 +201,20 @@ fn files_sound_and_damaged() {
 
 #[test]
 fn refusals_of_reading_in_their_order() {
-    let frame = Frame { pitch: 1_000_000, x: 0, y: 0 };
+    let frame = Frame { version: 2, pitch: 1_000_000, x: 0, y: 0 };
     let mut random = Random::new(30);
     for _ in 0..2_000 {
         let text = gerber::written(good_frame(&mut random), &any_flashes(&mut random));
         let room = if random.one_in(2) { FLASH_ROOM } else { random.below(FLASH_ROOM) };
         let _ = compare_read(text.as_bytes(), any_frame(&mut random), room);
     }
-    for text in ["", "M02*\n", "%TF.FileFunction,Copper,L1,Top*%\n"] {
+    for text in ["", "M02*\n", "%TF.FileFunction,Copper,L1,Top*%\n", "G04 #@! TF.FileFunction,Copper,L1,Top*\n"] {
         for (room, pitch) in
             [(FLASH_ROOM, 1_000_000), (FLASH_ROOM - 1, 1), (FLASH_ROOM, 1), (FLASH_ROOM + 1, 2), (0, 2)]
         {
-            let _ = compare_read(text.as_bytes(), Frame { pitch, ..frame }, room);
+            for version in [0, 1, 2, 3] {
+                let _ = compare_read(text.as_bytes(), Frame { version, pitch, ..frame }, room);
+            }
         }
     }
 }
@@ -194,9 +225,10 @@ fn the_largest_areas() {
     for _ in 0..40 {
         let area = spans(&mut random, 64, 64);
         let pitch = 2 * (1 + random.number() % 500_000);
-        let frame = Frame { pitch, x: -9_999_999_000, y: 9_900_000_000 };
+        let version = known_version(&mut random);
+        let frame = Frame { version, pitch, x: -9_999_999_000, y: 9_900_000_000 };
         let written = compare((64, 64, 64), &area.raster, frame, ROOMS);
-        assert!(written.file.len() <= 4156, "{}", written.file.len());
+        assert!(written.file.len() <= 4162, "{}", written.file.len());
         assert!(compare_read(written.file.as_bytes(), frame, FLASH_ROOM).is_ok());
     }
 }
@@ -212,13 +244,13 @@ fn the_ten_digit_ends() {
         (i64::MAX, 14),
         (i64::MIN, 14),
     ] {
-        for frame in [Frame { pitch: 2, x, y: 0 }, Frame { pitch: 2, x: 0, y: x }] {
+        for frame in [Frame { version: 2, pitch: 2, x, y: 0 }, Frame { version: 1, pitch: 2, x: 0, y: x }] {
             let written = compare((1, 1, 64), &one, frame, ROOMS);
             assert_eq!(written.covered.outcome.answer, answer, "{x}");
         }
     }
     // an area without copper has no centre
-    let written = compare((1, 1, 64), &[0], Frame { pitch: 2, x: i64::MAX, y: i64::MIN }, ROOMS);
+    let written = compare((1, 1, 64), &[0], Frame { version: 2, pitch: 2, x: i64::MAX, y: i64::MIN }, ROOMS);
     assert_eq!(written.covered.outcome.answer, 0);
 }
 
@@ -231,9 +263,9 @@ fn reading_at_the_ends() {
             for z in [0, 1, -1, 9_999_999_999i64, -9_999_999_999, 9_999_999_998, -9_999_999_998, 500_000] {
                 for line in [format!("X{z}Y1D03*\n"), format!("X1Y{z}D03*\n"), format!("X{z}Y{z}D03*\n")] {
                     let size = if pitch == 2 { "0.000002" } else { "1.000000" };
-                    let text = format!("{}%ADD10R,{size}X{size}*%\nD10*\n{line}M02*\n", gerber::head());
-                    for frame in [Frame { pitch, x, y: 0 }, Frame { pitch, x: 0, y: x }, Frame { pitch, x, y: x }] {
-                        let _ = compare_read(text.as_bytes(), frame, FLASH_ROOM);
+                    let text = format!("{}%ADD10R,{size}X{size}*%\nD10*\n{line}M02*\n", gerber::head(2));
+                    for (x, y) in [(x, 0), (0, x), (x, x)] {
+                        let _ = compare_read(text.as_bytes(), Frame { version: 2, pitch, x, y }, FLASH_ROOM);
                     }
                 }
             }

@@ -23,6 +23,7 @@ ANSWERS = {
     15: f"the room for a file is under {FILE_ROOM:,} bytes",
     16: "line {x} of the list is not as ruled",
     17: f"the list has over {LIST:,} flashes",
+    21: "the version is not 1 or 2",
     30: "line {x} of the file is not as ruled",
 }
 
@@ -31,7 +32,7 @@ DRAWN = (0, 8, 9)
 
 
 # The answers that one command alone gives.
-OF_CHECK, OF_GERBER = (16, 17), (13, 14, 15, 30)
+OF_CHECK, OF_GERBER = (16, 17), (13, 14, 15, 21, 30)
 
 
 def table(*own):

@@ -10,8 +10,8 @@ NAME = "gerber"
 SUMMARY = "the cover of a job as a Gerber file, and such a file read back"
 PROGRAM = "gerberfile"
 
-HELP = f"""usage: ./flashlist gerber --pitch NM [--origin X Y] [-o FILE] [JOB]
-       ./flashlist gerber --read --pitch NM [--origin X Y] [FILE]
+HELP = f"""usage: ./flashlist gerber --pitch NM [--origin X Y] [--version N] [-o FILE] [JOB]
+       ./flashlist gerber --read --pitch NM [--origin X Y] [--version N] [FILE]
 
 Covers a job with the least number of flashes and writes them as a Gerber file: millimetres, format 4.6, a rectangular
 aperture for each distinct size of a flash, numbered from D10 in order of first use, and each flash at the centre of its
@@ -22,6 +22,8 @@ standard input is read.
   --pitch NM      the grid's pitch: an even number of nanometres, 2 to {answers.PITCH:,}
   --origin X Y    the bottom left corner of square (0, 0), in nanometres right of and above panel zero; left of it and
                   below it are numbers below 0, as in --origin -500000 -250000 (without it 0 0)
+  --version N     1 writes the file's attribute as a comment, for machines that stop at X2 attribute commands; 2, which
+                  stands without it, as a command. The two differ in their first line alone; --read takes either
   -o FILE         writes the Gerber file there and not to standard output; after a refusal no file is made or changed
   --read          reads a file back
   --help          this text
@@ -32,12 +34,13 @@ A refusal prints `refused`, the answer's number and its place, two numbers; afte
 Exit status: 0 done, 1 a refusal (also explained on standard error), 2 a wrong call or a file that cannot be read or made, 3
 the program or the system failed (one sentence says how), 130 interrupted. A reader that closes the pipe has enough: 0.
 
-Answers (2 to 5, 7, 12 and 15 never come from here; reading gives 13 and 30 alone):
+Answers (2 to 5, 7, 12 and 15 never come from here; reading gives 13, 21 and 30 alone):
 """
 
 # The words that the program is given, by their numbers from 1, and what each has to be.
-WORDS = {2: ("the pitch", "a whole number of 64 bits"), 3: ("the origin's X", "a whole number of 64 bits, with a minus or no sign"),
-         4: ("the origin's Y", "a whole number of 64 bits, with a minus or no sign")}
+WORDS = {2: ("the version", "a whole number of 64 bits"), 3: ("the pitch", "a whole number of 64 bits"),
+         4: ("the origin's X", "a whole number of 64 bits, with a minus or no sign"),
+         5: ("the origin's Y", "a whole number of 64 bits, with a minus or no sign")}
 
 
 def help_text():
@@ -46,7 +49,7 @@ def help_text():
 
 def asked(words):
     """The program's words, the file to write (None is standard output), and the name to read."""
-    given, names = call.parsed(words, {"--pitch": 1, "--origin": 2, "--read": 0, "-o": 1}, NAME)
+    given, names = call.parsed(words, {"--pitch": 1, "--origin": 2, "--version": 1, "--read": 0, "-o": 1}, NAME)
     if "--pitch" not in given:
         raise WrongCall(f"--pitch NM is to be given; see ./flashlist {NAME} --help")
     if len(names) > 1:
@@ -54,7 +57,8 @@ def asked(words):
     reading, file = "--read" in given, given.get("-o", [None])[0]
     if reading and file is not None:
         raise WrongCall("-o is for a Gerber file; what --read prints goes to standard output")
-    return ["read" if reading else "write", *given["--pitch"], *given.get("--origin", ["0", "0"])], file, names[0] if names else "-"
+    told = ["read" if reading else "write", *given.get("--version", ["2"]), *given["--pitch"], *given.get("--origin", ["0", "0"])]
+    return told, file, names[0] if names else "-"
 
 
 def run(words):

@@ -16,6 +16,7 @@ use Rattle.gerber.proofs.centres.pitch_fits
 use Rattle.gerber.proofs.centres.coordinate_fits
 use Rattle.gerber.proofs.centres.centre
 use Rattle.gerber.proofs.centres.centres_fit
+use Rattle.gerber.proofs.versions.format_checked
 use Rattle.gerber.proofs.found.number_at
 use Rattle.gerber.proofs.found.find_side
 use Rattle.gerber.proofs.found.find_square
@@ -46,10 +47,13 @@ centre-determined κs a pre x y v w p q = (p ∙ sym q, refl)
 pub centres-fit-determined : Determined centres_fit.Kinds.ps centres_fit.Kinds.r centres_fit.Reads.Pre centres_fit.Reads.Post
 centres-fit-determined κs a pre x y v w p q = (p ∙ sym q, refl)
 
+pub format-checked-determined : Determined format_checked.Kinds.ps format_checked.Kinds.r format_checked.Reads.Pre format_checked.Reads.Post
+format-checked-determined κs a pre x y v w p q = (p ∙ sym q, refl)
+
 pub put-file-determined : Determined put_file.Kinds.ps put_file.Kinds.r put_file.Reads.Pre put_file.Reads.Post
 put-file-determined κs a pre x y v w p q =
     let e = p .left ∙ sym (q .left) in
-    (p .past ∙ sym (q .past), λ i. (e i, (tt, (tt, (tt, (tt, (tt, tt)))))))
+    (p .past ∙ sym (q .past), λ i. (e i, (tt, (tt, (tt, (tt, (tt, (tt, tt))))))))
 
 -- answer, place, counts, copper number, length, and every byte of the three rooms
 pub write-gerber-determined : Determined keekaboor_write_gerber.Kinds.ps keekaboor_write_gerber.Kinds.r keekaboor_write_gerber.Reads.Pre keekaboor_write_gerber.Reads.Post
@@ -58,7 +62,7 @@ write-gerber-determined κs a pre x y v w p q =
     let f = ap (λ (g : Given). g .flashesAfter) e in
     let m = ap (λ (g : Given). g .marksAfter) e in
     let t = ap (λ (g : Given). g .fileAfter) e in
-    (ap (λ (g : Given). g .outcome) e, λ i. (tt, (tt, (tt, (tt, (f i, (m i, (tt, (tt, (tt, (t i, tt)))))))))))
+    (ap (λ (g : Given). g .outcome) e, λ i. (tt, (tt, (tt, (tt, (f i, (m i, (tt, (tt, (tt, (tt, (t i, tt))))))))))))
 
 pub coordinate-fits-determined : Determined coordinate_fits.Kinds.ps coordinate_fits.Kinds.r coordinate_fits.Reads.Pre coordinate_fits.Reads.Post
 coordinate-fits-determined κs a pre x y v w p q = (p ∙ sym q, refl)
@@ -86,4 +90,4 @@ pub read-gerber-determined : Determined keekaboor_read_gerber.Kinds.ps keekaboor
 read-gerber-determined κs a pre x y v w p q =
     let e = p ∙ sym q in
     let f = ap (λ (g : Reading.Given). g .flashesAfter) e in
-    (ap (λ (g : Reading.Given). g .outcome) e, λ i. (tt, (tt, (tt, (tt, (f i, tt))))))
+    (ap (λ (g : Reading.Given). g .outcome) e, λ i. (tt, (tt, (tt, (tt, (tt, (f i, tt)))))))

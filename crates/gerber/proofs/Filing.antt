@@ -25,19 +25,19 @@ use Rattle.gerber.specs.File.{gerberFile}
 use Rattle.gerber.specs.Writing.{Given, withLength, noFile, filed, fileChecks, orFile, writeGives}
 use Rattle.gerber.proofs.Aside.{moved, Told}
 
-module _ (w h k : ℕ) (raster : List ℕ) (pitch : ℕ) (x y : ℤ) (f m t : List ℕ) where
+module _ (w h k : ℕ) (raster : List ℕ) (version pitch : ℕ) (x y : ℤ) (f m t : List ℕ) where
   -- what the cover refuses
-  pub not-covered : (coverGives w h k raster f m .outcome .answer ≡ 0 → ⊥) → writeGives w h k raster pitch x y f m t ≡ noFile (coverGives w h k raster f m) t
+  pub not-covered : (coverGives w h k raster f m .outcome .answer ≡ 0 → ⊥) → writeGives w h k raster version pitch x y f m t ≡ noFile (coverGives w h k raster f m) t
   unfolding writeGives
   not-covered n = rw (ne-eqb (coverGives w h k raster f m .outcome .answer) 0 n)
 
   is-covered : coverGives w h k raster f m .outcome .answer ≡ 0
-      → writeGives w h k raster pitch x y f m t
-      ≡ orFile (firstRefusal (fileChecks pitch x y (flashes (areaOf w h raster) w h) (length t))) (coverGives w h k raster f m) f m t (gerberFile pitch x y (flashes (areaOf w h raster) w h))
+      → writeGives w h k raster version pitch x y f m t
+      ≡ orFile (firstRefusal (fileChecks version pitch x y (flashes (areaOf w h raster) w h) (length t))) (coverGives w h k raster f m) f m t (gerberFile version pitch x y (flashes (areaOf w h raster) w h))
   unfolding writeGives
   is-covered e = rw (eq-eqb (coverGives w h k raster f m .outcome .answer) 0 e)
 
-  pub write-short : {g : Cover.Given} → g ≡ coverGives w h k raster f m → (leb flashRoom (length f) && leb markRoom (length m)) ≡ false → noFile g t ≡ writeGives w h k raster pitch x y f m t
+  pub write-short : {g : Cover.Given} → g ≡ coverGives w h k raster f m → (leb flashRoom (length f) && leb markRoom (length m)) ≡ false → noFile g t ≡ writeGives w h k raster version pitch x y f m t
   write-short e u =
       ap (λ (g : Cover.Given). noFile g t) e
       ∙ sym (not-covered (λ z.
@@ -50,7 +50,7 @@ module _ (w h k : ℕ) (raster : List ℕ) (pitch : ℕ) (x y : ℤ) (f m t : Li
 
     pub write-none : (g .outcome .answer ≡ 0 → ⊥)
         → record { outcome = withLength (g .outcome) 0; flashesAfter = f; marksAfter = written m 0 (take (g .outcome .marks * markRecord) (g .marksAfter)); fileAfter = t }
-        ≡ writeGives w h k raster pitch x y f m t
+        ≡ writeGives w h k raster version pitch x y f m t
     write-none n =
         let e : f ≡ written f 0 (take (g .outcome .flashes * flashRecord) (g .flashesAfter)) = sym (ap (λ c. written f 0 (take (c * flashRecord) (g .flashesAfter))) (T .none n) ∙ written-none f 0) in
         (λ i. record { outcome = withLength (g .outcome) 0; flashesAfter = e i; marksAfter = written m 0 (take (g .outcome .marks * markRecord) (g .marksAfter)); fileAfter = t })
@@ -58,18 +58,18 @@ module _ (w h k : ℕ) (raster : List ℕ) (pitch : ℕ) (x y : ℤ) (f m t : Li
         ∙ sym (not-covered (λ z. n (sym answers ∙ z)))
 
     module _ (z : g .outcome .answer ≡ 0) where
-      module _ {a : Answer} (e : a ≡ firstRefusal (fileChecks pitch x y (flashesIn (g .outcome .flashes) (g .flashesAfter)) (length t))) where
-        given : writeGives w h k raster pitch x y f m t ≡ orFile a (moved f m g) f m t (gerberFile pitch x y (flashesIn (g .outcome .flashes) (g .flashesAfter)))
+      module _ {a : Answer} (e : a ≡ firstRefusal (fileChecks version pitch x y (flashesIn (g .outcome .flashes) (g .flashesAfter)) (length t))) where
+        given : writeGives w h k raster version pitch x y f m t ≡ orFile a (moved f m g) f m t (gerberFile version pitch x y (flashesIn (g .outcome .flashes) (g .flashesAfter)))
         given =
             is-covered (answers ∙ z)
-            ∙ ap (λ qs. orFile (firstRefusal (fileChecks pitch x y qs (length t))) (coverGives w h k raster f m) f m t (gerberFile pitch x y qs)) (sym (T .ruled z))
-            ∙ (λ i. orFile (sym e i) (T .lent i) f m t (gerberFile pitch x y (flashesIn (g .outcome .flashes) (g .flashesAfter))))
+            ∙ ap (λ qs. orFile (firstRefusal (fileChecks version pitch x y qs (length t))) (coverGives w h k raster f m) f m t (gerberFile version pitch x y qs)) (sym (T .ruled z))
+            ∙ (λ i. orFile (sym e i) (T .lent i) f m t (gerberFile version pitch x y (flashesIn (g .outcome .flashes) (g .flashesAfter))))
 
-        pub write-refused : (a .number ≡ 0 → ⊥) → record { outcome = withLength (outcomeOf a) 0; flashesAfter = f; marksAfter = m; fileAfter = t } ≡ writeGives w h k raster pitch x y f m t
+        pub write-refused : (a .number ≡ 0 → ⊥) → record { outcome = withLength (outcomeOf a) 0; flashesAfter = f; marksAfter = m; fileAfter = t } ≡ writeGives w h k raster version pitch x y f m t
         unfolding orFile
         write-refused n = sym (given ∙ rw (ne-eqb (a .number) 0 n))
 
         pub write-done : a .number ≡ 0
-            → filed (moved f m g) t (gerberFile pitch x y (flashesIn (g .outcome .flashes) (g .flashesAfter))) ≡ writeGives w h k raster pitch x y f m t
+            → filed (moved f m g) t (gerberFile version pitch x y (flashesIn (g .outcome .flashes) (g .flashesAfter))) ≡ writeGives w h k raster version pitch x y f m t
         unfolding orFile
         write-done n = sym (given ∙ rw (eq-eqb (a .number) 0 n))

@@ -11,6 +11,7 @@ pub mod FileChecks
 pub mod Aside
 pub mod Filing
 pub mod Short
+pub mod FirstLine
 pub mod Determined
 pub mod Exact
 pub mod FirstUse

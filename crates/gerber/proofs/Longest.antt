@@ -1,5 +1,5 @@
 -- The longest file: a bound by a formula, under the room that is asked for.
--- Numbers of apertures have two digits, sizes at most two before the point, coordinates at most ten and a sign; there are at most as many apertures as flashes.
+-- The first line is longest in version 1. Numbers of apertures have two digits, sizes at most two before the point, coordinates at most ten and a sign; there are at most as many apertures as flashes.
 -- `put_file`'s callers lend enough by this.
 use mathlib.Core.Path.{_≡_, refl, sym, ap, _∙_}
 use mathlib.Core.Bool.{Bool, true, false, cond, _&&_}
@@ -8,7 +8,7 @@ use mathlib.Core.Option.{Option, none, some}
 use Prim.Native.Nat.{ℕ, zero, suc, _+_, _-_, _*_, _/_, _^_, _≤_, _<_}
 use native.Mathlib.Nat.{mul-le-mul, le-refl, le-trans}
 use native.Mathlib.Omega.{arith}
-use lib.Dec.{ltb}
+use lib.Dec.{ltb, eqb}
 use lib.IntN.{ℤ, pos, negsuc, natAbs}
 use lib.ListN.{length, length-append}
 use borrow.Author.Tests.{ltb-true}
@@ -19,7 +19,7 @@ use Rattle.grid.specs.Squares.{Rectangle}
 use Rattle.text.specs.Decimal.{digits, decimal}
 use Rattle.text.specs.Signed.{signed}
 use Rattle.text.proofs.Lengths.{digits-grow}
-use Rattle.gerber.specs.File.{Size, sizeOf, sameSize, added, used, apertures, placeOf, firstNumber, millimetres, apertureLine, apertureLines, selectLine, flashLine, centre, centreLine, selects, changes, flashLines, headLines, endLine, gerberFile, pitchFits, coordinateFits, centreFits, centresFit}
+use Rattle.gerber.specs.File.{Size, sizeOf, sameSize, added, used, apertures, placeOf, firstNumber, millimetres, apertureLine, apertureLines, selectLine, flashLine, centre, centreLine, selects, changes, flashLines, firstLine, headLines, endLine, gerberFile, pitchFits, coordinateFits, centreFits, centresFit}
 use Rattle.gerber.proofs.Pieces.{length-millimetres, length-aperture, length-select, length-flash}
 use Rattle.gerber.proofs.Signs.{pitch-most}
 use Rattle.gerber.proofs.Sizes.{Good, Goods, Drawns, apertures-good}
@@ -35,15 +35,19 @@ abbrev pub flashMost : ℕ
 flashMost = 2 * (1 + length (decimal (10 ^ 10 - 1))) + 7
 
 abbrev pub longestFile : ℕ
-longestFile = length headLines + side * apertureMost + side * (selectMost + flashMost) + length endLine
+longestFile = length (headLines 1) + side * apertureMost + side * (selectMost + flashMost) + length endLine
 
 pub longest-fits : longestFile ≤ fileRoom
-unfolding decimal digits
+unfolding decimal digits firstLine
 longest-fits =
     let a : length (decimal (firstNumber + side)) ≡ 2 = refl in
     let b : length (decimal side) ≡ 2 = refl in
     let c : length (decimal (10 ^ 10 - 1)) ≡ 10 = refl in
     omega arith
+
+head-most : (version : ℕ) → length (headLines version) ≤ length (headLines 1)
+unfolding firstLine
+head-most version = bcase (eqb version 1) (λ u. rw u (omega arith)) (λ u. rw u (omega arith))
 
 side-length : (pitch n : ℕ) → pitchFits pitch ≡ true → n ≤ side → length (millimetres (n * pitch)) ≤ length (decimal side) + 7
 side-length pitch n p h =
@@ -127,11 +131,12 @@ parts-most : (a b c d : List ℕ) (m n : ℕ) → length b ≤ m → length c �
 parts-most a b c d m n h l = omega (arith, length-append a (b ++ (c ++ d)), length-append b (c ++ d), length-append c d)
 
 -- every file of at most as many flashes as the grid has columns, within the grid, with coordinates of at most ten digits
-pub file-most : (pitch : ℕ) (x y : ℤ) (qs : List Rectangle) → pitchFits pitch ≡ true → length qs ≤ side → Drawns qs → centresFit pitch x y qs ≡ true
-    → length (gerberFile pitch x y qs) ≤ longestFile
+pub file-most : (version pitch : ℕ) (x y : ℤ) (qs : List Rectangle) → pitchFits pitch ≡ true → length qs ≤ side → Drawns qs → centresFit pitch x y qs ≡ true
+    → length (gerberFile version pitch x y qs) ≤ longestFile
 unfolding gerberFile
-file-most pitch x y qs p few ds t =
+file-most version pitch x y qs p few ds t =
     let many : length (apertures qs) ≤ side = omega (arith, used-most [] qs) in
     let a = le-trans (apertures-most pitch 0 (apertures qs) p (omega arith) (apertures-good qs ds)) (mul-le-mul many (le-refl apertureMost)) in
     let b = le-trans (flashes-most pitch x y (apertures qs) none qs many t) (mul-le-mul few (le-refl (selectMost + flashMost))) in
-    parts-most headLines (apertureLines pitch 0 (apertures qs)) (flashLines pitch x y (apertures qs) none qs) endLine (side * apertureMost) (side * (selectMost + flashMost)) a b
+    let c = parts-most (headLines version) (apertureLines pitch 0 (apertures qs)) (flashLines pitch x y (apertures qs) none qs) endLine (side * apertureMost) (side * (selectMost + flashMost)) a b in
+    omega (arith, c, head-most version)

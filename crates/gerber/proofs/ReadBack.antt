@@ -18,8 +18,8 @@ use Rattle.grid.specs.Limits.{side}
 use Rattle.grid.specs.Squares.{Rectangle}
 use Rattle.text.specs.Words.{begins}
 use Rattle.cover.specs.Code.{Drawn}
-use Rattle.gerber.specs.File.{Size, sizeOf, sameSize, added, used, apertures, placeOf, selectLine, changes, selects, centreLine, apertureLines, flashLines, headLines, endLine, gerberFile, pitchFits, centreFits, centresFit}
-use Rattle.gerber.specs.Reading.{Read, notRuled, flashesRead, heads, readHead, Apertures, isCurrent, selected, sizeAt, flashed, Turned, flash, turned, onTurn, readFlashes, pastApertures, readBody, readFile}
+use Rattle.gerber.specs.File.{Size, sizeOf, sameSize, added, used, apertures, placeOf, selectLine, changes, selects, centreLine, apertureLines, flashLines, firstLine, headLines, endLine, gerberFile, pitchFits, centreFits, centresFit}
+use Rattle.gerber.specs.Reading.{Read, notRuled, flashesRead, firstOf, heads, readHead, Apertures, isCurrent, selected, sizeAt, flashed, Turned, flash, turned, onTurn, readFlashes, pastApertures, readBody, readFile}
 use Rattle.gerber.specs.declared.turns.Reached.{Reached}
 use Rattle.gerber.proofs.Sizes.{Drawns}
 use Rattle.gerber.proofs.Longest.{used-most}
@@ -139,15 +139,19 @@ body-read pitch x y t spot qs p d f few e =
     ∙ flashes-read pitch p x y t sizes side qs [] [] none (pastApertures (record { sizes = sizes; past = spot + length (apertureLines pitch 0 sizes) })) few d f refl refl refl (passed t spot (apertureLines pitch 0 sizes) rest e)
 
 -- the head, byte by byte
-head-read : (body : List ℕ) (next : ℕ → Read) → readHead (headLines ++ body) 1 heads 0 next ≡ next (length headLines)
-unfolding readHead begins
-head-read body next = refl
+head-read : (version : ℕ) (body : List ℕ) (next : ℕ → Read) → readHead (headLines version ++ body) 1 (heads (headLines version ++ body)) 0 next ≡ next (length (headLines version))
+unfolding readHead begins firstLine firstOf
+head-read version body next = bcase (eqb version 1) (λ u. rw u) (λ u. rw u)
+
+past-head : (version : ℕ) (body : List ℕ) → drop (length (headLines version)) (headLines version ++ body) ≡ body
+unfolding firstLine
+past-head version body = bcase (eqb version 1) (λ u. rw u) (λ u. rw u)
 
 -- Of at most as many flashes as the grid has columns, within the grid, with coordinates of at most ten digits, and a pitch in range: as they are written.
-pub read-back : (pitch : ℕ) (x y : ℤ) (qs : List Rectangle) → pitchFits pitch ≡ true → Drawns qs → centresFit pitch x y qs ≡ true → length qs ≤ side
-    → readFile pitch x y (gerberFile pitch x y qs) ≡ flashesRead qs
+pub read-back : (version pitch : ℕ) (x y : ℤ) (qs : List Rectangle) → pitchFits pitch ≡ true → Drawns qs → centresFit pitch x y qs ≡ true → length qs ≤ side
+    → readFile pitch x y (gerberFile version pitch x y qs) ≡ flashesRead qs
 unfolding readFile gerberFile
-read-back pitch x y qs p d f few =
+read-back version pitch x y qs p d f few =
     let body : List ℕ = apertureLines pitch 0 (apertures qs) ++ (flashLines pitch x y (apertures qs) none qs ++ endLine) in
-    head-read body (readBody pitch x y (headLines ++ body))
-    ∙ body-read pitch x y (headLines ++ body) (length headLines) qs p d f few refl
+    head-read version body (readBody pitch x y (headLines version ++ body))
+    ∙ body-read pitch x y (headLines version ++ body) (length (headLines version)) qs p d f few (past-head version body)

@@ -1,23 +1,26 @@
 -- The whole outcome of reading, case by case; and what a body that was read says of the file. `read_file` and `keekaboor_read_gerber` go by this.
 use mathlib.Core.Path.{_≡_, refl, sym, ap, subst, _∙_}
 use mathlib.Core.Bool.{Bool, true, false}
-use mathlib.Core.List.{List, [], _∷_}
+use mathlib.Core.List.{List, [], _∷_, _++_}
 use Prim.Native.Nat.{ℕ, suc, _+_, _*_, _≤_}
 use native.Mathlib.Omega.{arith}
+use borrow.Author.Tests.{ne-eqb}
 use lib.Dec.{leb}
 use lib.IntN.{ℤ}
 use lib.ListN.{length, take}
 use Rattle.lists.specs.Lists.{gather}
 use Rattle.grid.specs.Limits.{side, flashRoom, flashRecord}
-use Rattle.grid.specs.Answers.{answer, refused, firstRefusal, orElse, flashRoomShort, pitchOut, badFileLine}
+use Rattle.grid.specs.Answers.{answer, refused, check, firstRefusal, orElse, flashRoomShort, badFileLine}
 use Rattle.grid.specs.Squares.{Rectangle}
+use Rattle.grid.specs.declared.answers.Answer.{Answer}
+use Rattle.grid.proofs.Chain.{Passes, stands as refuses, gives-way, chain-append, chain-skip, passed-check}
 use Rattle.text.specs.declared.read.Next.the-variants.{Spot, Nothing}
 use Rattle.text.specs.Words.{stands, wordAt}
 use Rattle.text.proofs.Passes.{found-spot}
 use Rattle.cover.specs.Records.{flashBytes}
-use Rattle.gerber.specs.File.{Size, pitchFits}
+use Rattle.gerber.specs.File.{Size, commentLine, attributeLine, formatChecks}
 use Rattle.gerber.specs.Code.{codedSizes}
-use Rattle.gerber.specs.Reading.{Read, notRuled, flashesRead, Given, Apertures, pastApertures, heads, readHead, readApertures, readFlashes, readBody, readFile, readRefused, allRead, orFlashes, readGives}
+use Rattle.gerber.specs.Reading.{Read, notRuled, flashesRead, Given, Apertures, pastApertures, firstOf, heads, readHead, readApertures, readFlashes, readBody, readFile, readRefused, allRead, lineCheck, readChecks, orFlashes, readGives}
 use Rattle.gerber.specs.Parts.{HeadRead, ReadInto}
 use Rattle.gerber.specs.declared.read.Head.the-variants.{Past, Bad as BadHead}
 use Rattle.gerber.specs.declared.read.Body.{Body}
@@ -25,24 +28,38 @@ use Rattle.gerber.specs.declared.read.Body.the-variants.{Flashes, Bad as
 use Rattle.gerber.proofs.Compared.{found-nothing}
 use Rattle.gerber.proofs.CodedSizes.{coded-length}
 
-module _ (pitch : ℕ) (x y : ℤ) (text f : List ℕ) where
-  pub read-short : leb flashRoom (length f) ≡ false → readGives pitch x y text f ≡ readRefused (refused flashRoomShort) f
+module _ (version pitch : ℕ) (x y : ℤ) (text f : List ℕ) where
+  pub read-short : leb flashRoom (length f) ≡ false → readGives version pitch x y text f ≡ readRefused (refused flashRoomShort) f
   unfolding readGives firstRefusal orElse orFlashes
   read-short e = rw e
 
   module _ (room : leb flashRoom (length f) ≡ true) where
-    pub read-pitch : pitchFits pitch ≡ false → readGives pitch x y text f ≡ readRefused (refused pitchOut) f
-    unfolding readGives firstRefusal orElse orFlashes
-    read-pitch e = rw (room, e)
+    abbrev lines : List Answer
+    lines = lineCheck (readFile pitch x y text) ∷ []
 
-    module _ (good : pitchFits pitch ≡ true) where
-      pub read-line : {line : ℕ} → readFile pitch x y text ≡ notRuled line → readGives pitch x y text f ≡ readRefused (answer badFileLine line 0) f
-      unfolding readGives firstRefusal orElse orFlashes
-      read-line e = rw (room, good, e)
+    behind : firstRefusal (readChecks version pitch f (readFile pitch x y text)) ≡ orElse (firstRefusal (formatChecks version pitch)) (firstRefusal lines)
+    behind =
+        chain-skip (check (leb flashRoom (length f)) flashRoomShort ∷ []) (formatChecks version pitch ++ lines) (passed-check (leb flashRoom (length f)) flashRoomShort room, tt)
+        ∙ chain-append (formatChecks version pitch) lines
 
-      pub read-all : {qs : List Rectangle} → readFile pitch x y text ≡ flashesRead qs → readGives pitch x y text f ≡ allRead qs f
-      unfolding readGives firstRefusal orElse orFlashes
-      read-all e = rw (room, good, e)
+    pub read-format : {a : Answer} → a ≡ firstRefusal (formatChecks version pitch) → (Passes a → ⊥) → readGives version pitch x y text f ≡ readRefused a f
+    unfolding readGives orFlashes
+    read-format {a} e n =
+        ap (λ (b : Answer). orFlashes b (readFile pitch x y text) f) (behind ∙ ap (λ (b : Answer). orElse b (firstRefusal lines)) (sym e) ∙ refuses a (firstRefusal lines) n)
+        ∙ rw (ne-eqb (a .number) 0 n)
+
+    module _ (good : Passes (firstRefusal (formatChecks version pitch))) where
+      given : readGives version pitch x y text f ≡ orFlashes (firstRefusal lines) (readFile pitch x y text) f
+      unfolding readGives
+      given = ap (λ (b : Answer). orFlashes b (readFile pitch x y text) f) (behind ∙ gives-way (firstRefusal (formatChecks version pitch)) (firstRefusal lines) good)
+
+      pub read-line : {line : ℕ} → readFile pitch x y text ≡ notRuled line → readGives version pitch x y text f ≡ readRefused (answer badFileLine line 0) f
+      unfolding firstRefusal orElse orFlashes
+      read-line e = given ∙ rw e
+
+      pub read-all : {qs : List Rectangle} → readFile pitch x y text ≡ flashesRead qs → readGives version pitch x y text f ≡ allRead qs f
+      unfolding firstRefusal orElse orFlashes
+      read-all e = given ∙ rw e
 
 -- what a body says of what was read
 pub body-bad : (w : Read) (line : ℕ) (room : List ℕ) → ReadInto w (BadLine line) room → w ≡ notRuled line
@@ -61,6 +78,24 @@ told-bad w r room {line} i e = body-bad w line room (subst (λ (b : Body). ReadI
 pub told-flashes : (w : Read) (r : Body) (room : List ℕ) {n : ℕ} → ReadInto w r room → r ≡ Flashes n
     → (qs : List Rectangle) × (w ≡ flashesRead qs) × (n ≡ length qs) × (length qs ≤ side) × (take (length qs * flashRecord) room ≡ gather flashBytes qs)
 told-flashes w r room {n} i e = body-flashes w n room (subst (λ (b : Body). ReadInto w b room) e i)
+
+-- the first line, as the code looks for it
+module _ (text : List ℕ) where
+  is-comment : stands text 0 commentLine ≡ true → firstOf text ≡ commentLine
+  unfolding firstOf
+  is-comment t = rw t
+
+  is-attribute : stands text 0 commentLine ≡ false → firstOf text ≡ attributeLine
+  unfolding firstOf
+  is-attribute t = rw t
+
+  pub first-comment : {at : ℕ} → wordAt text 0 commentLine ≡ Spot at → Spot at ≡ wordAt text 0 (firstOf text)
+  unfolding wordAt
+  first-comment e = sym e ∙ ap (wordAt text 0) (sym (is-comment (found-spot (stands text 0 commentLine) (0 + length commentLine) e .0)))
+
+  pub first-attribute : wordAt text 0 commentLine ≡ Nothing → wordAt text 0 attributeLine ≡ wordAt text 0 (firstOf text)
+  unfolding wordAt
+  first-attribute e = ap (wordAt text 0) (sym (is-attribute (found-nothing (stands text 0 commentLine) (0 + length commentLine) e)))
 
 -- a line of the head
 pub head-stop : (text : List ℕ) (n : ℕ) (l : List ℕ) (ls : List (List ℕ)) (spot : ℕ) (next : ℕ → Read) → wordAt text spot l ≡ Nothing → readHead text n (l ∷ ls) spot next ≡ notRuled n

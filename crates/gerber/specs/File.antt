@@ -1,6 +1,6 @@
 -- The Gerber file of a list of flashes (document 02, R-2), byte by byte. Lengths are in nanometres: "format 4.6, so one unit is a nanometre".
 -- Throughout, pitch is the grid's pitch, and x and y are the origin: the bottom left corner of square (0, 0).
-use mathlib.Core.Bool.{Bool, true, false, not, cond, _&&_}
+use mathlib.Core.Bool.{Bool, true, false, not, cond, _&&_, _||_}
 use mathlib.Core.List.{List, [], _∷_, _++_}
 use mathlib.Core.Option.{Option, none, some}
 use Prim.Native.Nat.{ℕ, zero, suc, _+_, _-_, _*_, _/_, _%_, _^_}
@@ -9,7 +9,9 @@ use Prim.Native.Char.{Char, code}
 use lib.Dec.{leb, ltb, eqb}
 use lib.IntN.{ℤ, pos, natAbs, _+ℤ_}
 use Rattle.lists.specs.Lists.{any, all}
+use Rattle.grid.specs.Answers.{check, versionUnknown, pitchOut}
 use Rattle.grid.specs.Squares.{Rectangle}
+use Rattle.grid.specs.declared.answers.Answer.{Answer}
 use Rattle.text.specs.Decimal.{digit, decimal}
 use Rattle.text.specs.Signed.{signed}
 
@@ -83,8 +85,19 @@ changes none s = true
 changes (some t) s = not (sameSize t s)
 
 -- "%TF.FileFunction,Copper,L1,Top*%, %FSLAX46Y46*%, %MOMM*%"
-abbrev pub firstLine : List ℕ
-firstLine = bytes "%TF.FileFunction,Copper,L1,Top*%\n"
+abbrev pub attributeLine : List ℕ
+attributeLine = bytes "%TF.FileFunction,Copper,L1,Top*%\n"
+
+-- "the attributes go into G04 comments" (R-9)
+abbrev pub commentLine : List ℕ
+commentLine = bytes "G04 #@! TF.FileFunction,Copper,L1,Top*\n"
+
+-- "The caller names the version" (R-9): 1 for the machine that stops at X2 attribute commands, 2 for the other
+abbrev pub versionKnown : ℕ → Bool
+versionKnown version = eqb version 1 || eqb version 2
+
+unfoldable pub firstLine : ℕ → List ℕ
+firstLine version = cond (eqb version 1) commentLine attributeLine
 
 abbrev pub formatLine : List ℕ
 formatLine = bytes "%FSLAX46Y46*%\n"
@@ -92,8 +105,8 @@ formatLine = bytes "%FSLAX46Y46*%\n"
 abbrev pub unitLine : List ℕ
 unitLine = bytes "%MOMM*%\n"
 
-abbrev pub headLines : List ℕ
-headLines = firstLine ++ (formatLine ++ unitLine)
+abbrev pub headLines : ℕ → List ℕ
+headLines version = firstLine version ++ (formatLine ++ unitLine)
 
 -- "the apertures", from the k-th on
 unfoldable pub apertureLines : ℕ → ℕ → List Size → List ℕ
@@ -113,9 +126,9 @@ abbrev pub endLine : List ℕ
 endLine = bytes "M02*\n"
 
 -- "The lines .. are [the head], the apertures, the flashes in list order, `M02*`."
-unfoldable pub gerberFile : ℕ → ℤ → ℤ → List Rectangle → List ℕ
-gerberFile pitch x y qs =
-    headLines ++ (apertureLines pitch 0 (apertures qs) ++ (flashLines pitch x y (apertures qs) none qs ++ endLine))
+unfoldable pub gerberFile : ℕ → ℕ → ℤ → ℤ → List Rectangle → List ℕ
+gerberFile version pitch x y qs =
+    headLines version ++ (apertureLines pitch 0 (apertures qs) ++ (flashLines pitch x y (apertures qs) none qs ++ endLine))
 
 -- "The grid pitch is an even number of nanometres, 2 to 1,000,000."
 abbrev pub pitchInRange : ℕ → Bool
@@ -123,6 +136,10 @@ pitchInRange pitch = leb 2 pitch && leb pitch 1000000
 
 abbrev pub pitchFits : ℕ → Bool
 pitchFits pitch = pitchInRange pitch && eqb (pitch % 2) 0
+
+-- "21 unknown version, checked before 13"
+abbrev pub formatChecks : ℕ → ℕ → List Answer
+formatChecks version pitch = check (versionKnown version) versionUnknown ∷ check (pitchFits pitch) pitchOut ∷ []
 
 -- "a centre coordinate of more than ten digits"
 abbrev pub coordinateFits : ℤ → Bool

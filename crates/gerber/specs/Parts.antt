@@ -93,7 +93,7 @@ onHead (Past spot) next = next spot
 onHead (BadHead line) next = notRuled line
 
 abbrev pub HeadRead : List ℕ → Head → Type 0
-HeadRead text r = (next : ℕ → Read) → readHead text 1 heads 0 next ≡ onHead r next
+HeadRead text r = (next : ℕ → Read) → readHead text 1 (heads text) 0 next ≡ onHead r next
 
 -- flashes read into a room of one's own
 abbrev pub ReadInto : Read → Body → List ℕ → Type 0

@@ -1,4 +1,4 @@
--- Reading a file back (document 02, R-2): "Each line is judged by those before it". The line numbers, the flashes, and the whole outcome of a call.
+-- Reading a file back (document 02, R-2 and R-9): "Each line is judged by those before it". The line numbers, the flashes, and the whole outcome of a call.
 -- A line is as ruled where the text goes on with exactly the bytes of a line that may stand there, its line feed with them. So a line has one definition, in File.
 -- Throughout, pitch is the grid's pitch, x and y are the origin, text is the file, and f is what the lent flash room holds before the call.
 use mathlib.Core.Path.{_≡_}
@@ -11,12 +11,12 @@ use lib.IntN.{ℤ}
 use lib.ListN.{length, getD}
 use Rattle.lists.specs.Lists.{any, first, gather, from, upTo}
 use Rattle.grid.specs.Limits.{side, flashRoom}
-use Rattle.grid.specs.Answers.{answer, done, check, firstRefusal, flashRoomShort, pitchOut, badFileLine}
+use Rattle.grid.specs.Answers.{answer, done, check, firstRefusal, flashRoomShort, badFileLine}
 use Rattle.grid.specs.Squares.{Rectangle}
 use Rattle.grid.specs.declared.answers.Answer.{Answer}
 use Rattle.text.specs.Words.{stands}
 use Rattle.cover.specs.Records.{flashesWritten}
-use Rattle.gerber.specs.File.{Size, sameSize, apertureLine, selectLine, centreLine, centreFits, firstLine, formatLine, unitLine, endLine, pitchFits}
+use Rattle.gerber.specs.File.{Size, attributeLine, commentLine, formatLine, unitLine, sameSize, apertureLine, selectLine, centreLine, centreFits, endLine, formatChecks}
 use Rattle.gerber.specs.declared.turns.Reached.{Reached}
 use Rattle.gerber.specs.declared.read.ReadOutcome.{ReadOutcome}
 
@@ -25,9 +25,15 @@ pub data Read : Type 0 where
   notRuled : ℕ → Read
   flashesRead : List Rectangle → Read
 
--- the lines of the head
-abbrev pub heads : List (List ℕ)
-heads = firstLine ∷ formatLine ∷ unitLine ∷ []
+-- the lines of the head; "each file reads back under either version" (R-9): the first is that of either
+unfoldable pub firstOf : List ℕ → List ℕ
+firstOf text = cond (stands text 0 commentLine) commentLine attributeLine
+
+abbrev pub heads : List ℕ → List (List ℕ)
+heads text = firstOf text ∷ formatLine ∷ unitLine ∷ []
+
+abbrev pub headCount : ℕ
+headCount = 3
 
 -- the n-th line and those after it, from a spot on, and what follows them there
 unfoldable pub readHead : List ℕ → ℕ → List (List ℕ) → ℕ → (ℕ → Read) → Read
@@ -134,7 +140,7 @@ readFlashes (suc left) pitch x y text sizes qs s =
 
 -- the head, the apertures, the flashes
 abbrev pub pastApertures : Apertures → Reached
-pastApertures a = record { line = length heads + length (a .sizes) + 1; at = a .past; used = 0; current = 0 }
+pastApertures a = record { line = headCount + length (a .sizes) + 1; at = a .past; used = 0; current = 0 }
 
 abbrev pub readBody : ℕ → ℤ → ℤ → List ℕ → ℕ → Read
 readBody pitch x y text spot =
@@ -142,24 +148,20 @@ readBody pitch x y text spot =
     readFlashes side pitch x y text (a .sizes) [] (pastApertures a)
 
 unfoldable pub readFile : ℕ → ℤ → ℤ → List ℕ → Read
-readFile pitch x y text = readHead text 1 heads 0 (readBody pitch x y text)
+readFile pitch x y text = readHead text 1 (heads text) 0 (readBody pitch x y text)
 
 -- what a call gives: its outcome, and what the flash room holds after it
 pub record Given : Type 0 where
   pub outcome : ReadOutcome
   pub flashesAfter : List ℕ
 
--- "Reading back: 3, 13, then 30 file line not as ruled, with its line"
+-- "Reading back: 3, 13, then 30 file line not as ruled, with its line"; under R-9 with 21 before 13
 abbrev pub lineCheck : Read → Answer
 lineCheck (notRuled line) = answer badFileLine line 0
 lineCheck (flashesRead qs) = done
 
-abbrev pub readChecks : ℕ → List ℕ → Read → List Answer
-readChecks pitch f r =
-    check (leb flashRoom (length f)) flashRoomShort
-    ∷ check (pitchFits pitch) pitchOut
-    ∷ lineCheck r
-    ∷ []
+abbrev pub readChecks : ℕ → ℕ → List ℕ → Read → List Answer
+readChecks version pitch f r = check (leb flashRoom (length f)) flashRoomShort ∷ (formatChecks version pitch ++ (lineCheck r ∷ []))
 
 -- a refusal without a change, or the flashes in the lent room
 abbrev pub readRefused : Answer → List ℕ → Given
@@ -175,9 +177,9 @@ flashesOf (flashesRead qs) = qs
 unfoldable pub orFlashes : Answer → Read → List ℕ → Given
 orFlashes a r f = cond (eqb (a .number) 0) (allRead (flashesOf r) f) (readRefused a f)
 
-unfoldable pub readGives : ℕ → ℤ → ℤ → List ℕ → List ℕ → Given
-readGives pitch x y text f = let r = readFile pitch x y text in orFlashes (firstRefusal (readChecks pitch f r)) r f
+unfoldable pub readGives : ℕ → ℕ → ℤ → ℤ → List ℕ → List ℕ → Given
+readGives version pitch x y text f = let r = readFile pitch x y text in orFlashes (firstRefusal (readChecks version pitch f r)) r f
 
 -- the contract of `keekaboor_read_gerber`: outcome r, and a flash room that holds f′ afterwards, are what the call gives
-abbrev pub ReadsGerber : ℕ → ℤ → ℤ → List ℕ → List ℕ → ReadOutcome → List ℕ → Type 0
-ReadsGerber pitch x y text f r f′ = record { outcome = r; flashesAfter = f′ } ≡ readGives pitch x y text f
+abbrev pub ReadsGerber : ℕ → ℕ → ℤ → ℤ → List ℕ → List ℕ → ReadOutcome → List ℕ → Type 0
+ReadsGerber version pitch x y text f r f′ = record { outcome = r; flashesAfter = f′ } ≡ readGives version pitch x y text f

@@ -1,4 +1,4 @@
--- "Reading our own file back, given its pitch and origin, gives the same flashes" (document 02, R-2), of a call that wrote with success and one that reads:
+-- "Reading our own file back, given its pitch and origin, gives the same flashes" (document 02, R-2), "under either version" (R-9), of a call that wrote with success and one that reads:
 -- r is the writer's outcome and f′ what its flash room holds afterwards; the reader's room held g before; o is its outcome, and g′ what its room holds afterwards.
 use mathlib.Core.Path.{_≡_}
 use mathlib.Core.List.{List}

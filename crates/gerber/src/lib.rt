@@ -5,4 +5,5 @@ pub mod found;
 pub mod lines;
 pub mod read;
 pub mod turns;
+pub mod versions;
 pub mod write;

@@ -9,12 +9,13 @@ ghost use Rattle.grid.specs.Rooms.{Written};
 ghost use Rattle.text.specs.Line.{within};
 ghost use Rattle.cover.specs.Code.{rectangleOf, Drawn};
 ghost use Rattle.cover.specs.Records.{flashesIn};
-ghost use Rattle.gerber.specs.File.{pitchFits, centresFit, centreFits, lastDigits, millimetres, apertureLine, apertureLines, selectLine, flashLine, centreLine, headLines, gerberFile};
+ghost use Rattle.gerber.specs.File.{pitchFits, centresFit, centreFits, lastDigits, millimetres, apertureLine, apertureLines, selectLine, flashLine, centreLine, firstLine, headLines, gerberFile};
 ghost use Rattle.gerber.specs.Code.{Noted, sizesOf, codesUsed, largestCode, codedSize, codedSizes, FlashesHeld, codeLines, selectsCode};
 use crate::apertures::flash_at;
 use crate::apertures::place_of;
 use crate::apertures::size_of;
 use crate::centres::centre;
+use crate::versions::COMMENTS;
 use cover::flashes::Flash;
 use grid::limits::LINES;
 use grid::limits::SIDE;
@@ -174,16 +175,27 @@ fn note_sizes(records: &[u8], flashes: usize, sizes: &mut [u64]) -> usize
     count
 }
 
-fn put_head(room: &mut [u8]) -> usize
-    requires { ⌜ length headLines ≤ length (now room) ⌝ }
-    ensures { λ r. ⌜ Written (now (room .entry)) 0 headLines r (now (room .exit)) ⌝ }
+fn put_first(room: &mut [u8], version: u64) -> usize
+    requires { ⌜ length (firstLine version) ≤ length (now room) ⌝ }
+    ensures { λ r. ⌜ Written (now (room .entry)) 0 (firstLine version) r (now (room .exit)) ⌝ }
 {
-    let format = put_bytes(room, 0, b"%TF.FileFunction,Copper,L1,Top*%\n");
+    if version == COMMENTS {
+        return put_bytes(room, 0, b"G04 #@! TF.FileFunction,Copper,L1,Top*\n");
+    }
+    put_bytes(room, 0, b"%TF.FileFunction,Copper,L1,Top*%\n")
+}
+
+fn put_head(room: &mut [u8], version: u64) -> usize
+    requires { ⌜ length (headLines version) ≤ length (now room) ⌝ }
+    ensures { λ r. ⌜ Written (now (room .entry)) 0 (headLines version) r (now (room .exit)) ⌝ }
+{
+    let format = put_first(room, version);
     put_bytes(room, format, b"%FSLAX46Y46*%\n%MOMM*%\n")
 }
 
 pub fn put_file(
     room: &mut [u8],
+    version: u64,
     pitch: u64,
     x: i64,
     y: i64,
@@ -191,12 +203,12 @@ pub fn put_file(
     flashes: usize,
 ) -> usize
     requires { ⌜ (pitchFits pitch ≡ true) × FlashesHeld flashes (now records) × (centresFit pitch x y (flashesIn flashes (now records)) ≡ true) ⌝ }
-    requires { ⌜ length (gerberFile pitch x y (flashesIn flashes (now records))) ≤ length (now room) ⌝ }
-    ensures { λ r. ⌜ Written (now (room .entry)) 0 (gerberFile pitch x y (flashesIn flashes (now (records .entry)))) r (now (room .exit)) ⌝ }
+    requires { ⌜ length (gerberFile version pitch x y (flashesIn flashes (now records))) ≤ length (now room) ⌝ }
+    ensures { λ r. ⌜ Written (now (room .entry)) 0 (gerberFile version pitch x y (flashesIn flashes (now (records .entry)))) r (now (room .exit)) ⌝ }
 {
     let mut sizes = [0u64; SIDE];
     let count = note_sizes(records, flashes, &mut sizes);
-    let first = put_head(room);
+    let first = put_head(room, version);
     let next = put_apertures(room, first, pitch, &sizes, count);
     let end = put_flashes(room, next, pitch, x, y, records, flashes, &sizes, count);
     put_bytes(room, end, b"M02*\n")

@@ -6,18 +6,19 @@ ghost use Prim.Native.Nat.{_*_, _<_, _≤_};
 ghost use lib.ListN.{length, take};
 ghost use Rattle.grid.specs.Limits.{side, flashRecord, flashRoom};
 ghost use Rattle.grid.specs.Rooms.{written};
+ghost use Rattle.text.specs.Words.{wordAt};
 ghost use Rattle.cover.specs.Code.{rectangleOf, Drawn};
 ghost use Rattle.cover.specs.Records.{flashBytes};
 ghost use Rattle.gerber.specs.File.{pitchFits};
 ghost use Rattle.gerber.specs.Code.{codedSizes};
-ghost use Rattle.gerber.specs.Reading.{readApertures, readFlashes, readFile, readRefused, ReadsGerber};
+ghost use Rattle.gerber.specs.Reading.{firstOf, readApertures, readFlashes, readFile, readRefused, ReadsGerber};
 ghost use Rattle.gerber.specs.Parts.{SizesHeld, Sound, HeadRead, ReadInto};
-use crate::centres::pitch_fits;
 use crate::found::Found;
 use crate::turns::Reached;
 use crate::turns::Turn;
 use crate::turns::read_aperture;
 use crate::turns::take_turn;
+use crate::versions::format_checked;
 use cover::flashes::Flash;
 use grid::answers;
 use grid::answers::Answer;
@@ -53,10 +54,21 @@ pub enum Body {
     Bad(usize),
 }
 
+// Under either version the first line is that of either.
+fn read_first(text: &[u8]) -> Next
+    ensures { λ r. ⌜ r ≡ wordAt (now (text .entry)) 0 (firstOf (now (text .entry))) ⌝ }
+{
+    let comment = read_word(text, 0, b"G04 #@! TF.FileFunction,Copper,L1,Top*\n");
+    match comment {
+        Next::Spot(past) => Next::Spot(past),
+        Next::Nothing => read_word(text, 0, b"%TF.FileFunction,Copper,L1,Top*%\n"),
+    }
+}
+
 fn read_head(text: &[u8]) -> Head
     ensures { λ r. ⌜ HeadRead (now (text .entry)) r ⌝ }
 {
-    let Next::Spot(format) = read_word(text, 0, b"%TF.FileFunction,Copper,L1,Top*%\n") else {
+    let Next::Spot(format) = read_first(text) else {
         return Head::Bad(1);
     };
     let Next::Spot(unit) = read_word(text, format, b"%FSLAX46Y46*%\n") else {
@@ -168,18 +180,20 @@ fn refused(a: Answer) -> ReadOutcome
 #[no_mangle]
 pub extern "C" fn keekaboor_read_gerber(
     text: &[u8],
+    version: u64,
     pitch: u64,
     x: i64,
     y: i64,
     flash_room: &mut [u8],
 ) -> ReadOutcome
-    ensures { λ r. ⌜ ReadsGerber pitch x y (now (text .entry)) (now («flash_room» .entry)) r (now («flash_room» .exit)) ⌝ }
+    ensures { λ r. ⌜ ReadsGerber version pitch x y (now (text .entry)) (now («flash_room» .entry)) r (now («flash_room» .exit)) ⌝ }
 {
     if flash_room.len() < limits::FLASH_ROOM {
         return refused(Answer::refused(answers::FLASH_ROOM_SHORT));
     }
-    if !pitch_fits(pitch) {
-        return refused(Answer::refused(answers::PITCH_OUT));
+    let format = format_checked(version, pitch);
+    if format.number != answers::DONE {
+        return refused(format);
     }
     let mut flashes = [0u8; limits::FLASH_ROOM];
     let body = read_file(text, pitch, x, y, &mut flashes);

@@ -9,8 +9,8 @@ ghost use Rattle.cover.specs.Records.{flashesIn};
 ghost use Rattle.gerber.specs.Writing.{fileChecks, withLength, WritesGerber};
 ghost use Rattle.gerber.specs.Code.{FlashesHeld};
 use crate::centres::centres_fit;
-use crate::centres::pitch_fits;
 use crate::lines::put_file;
+use crate::versions::format_checked;
 use cover::entry::Outcome;
 use cover::entry::keekaboor_cover;
 use grid::answers;
@@ -67,8 +67,9 @@ fn rooms_fit(flash_room: usize, mark_room: usize) -> bool
     limits::FLASH_ROOM <= flash_room && limits::MARK_ROOM <= mark_room
 }
 
-// The checks of the file: 13, 14, 15. Centres are looked at only with a pitch that fits.
+// The checks of the file: 21, 13, 14, 15. Centres are looked at only with a pitch that fits.
 fn file_checked(
+    version: u64,
     pitch: u64,
     x: i64,
     y: i64,
@@ -77,10 +78,11 @@ fn file_checked(
     file_room: usize,
 ) -> Answer
     requires { ⌜ FlashesHeld flashes (now records) ⌝ }
-    ensures { λ r. ⌜ r ≡ firstRefusal (fileChecks pitch x y (flashesIn flashes (now (records .entry))) «file_room») ⌝ }
+    ensures { λ r. ⌜ r ≡ firstRefusal (fileChecks version pitch x y (flashesIn flashes (now (records .entry))) «file_room») ⌝ }
 {
-    if !pitch_fits(pitch) {
-        return Answer::refused(answers::PITCH_OUT);
+    let format = format_checked(version, pitch);
+    if format.number != answers::DONE {
+        return format;
     }
     Answer::done()
         .unless(
@@ -98,12 +100,13 @@ pub extern "C" fn keekaboor_write_gerber(
     raster: &[u8],
     flash_room: &mut [u8],
     mark_room: &mut [u8],
+    version: u64,
     pitch: u64,
     x: i64,
     y: i64,
     file_room: &mut [u8],
 ) -> WriteOutcome
-    ensures { λ r. ⌜ WritesGerber width height allowance (now (raster .entry)) pitch x y (now («flash_room» .entry)) (now («mark_room» .entry)) (now («file_room» .entry)) r (now («flash_room» .exit)) (now («mark_room» .exit)) (now («file_room» .exit)) ⌝ }
+    ensures { λ r. ⌜ WritesGerber width height allowance (now (raster .entry)) version pitch x y (now («flash_room» .entry)) (now («mark_room» .entry)) (now («file_room» .entry)) r (now («flash_room» .exit)) (now («mark_room» .exit)) (now («file_room» .exit)) ⌝ }
 {
     // a short room is the cover's refusal: it writes nothing
     if !rooms_fit(flash_room.len(), mark_room.len()) {
@@ -119,11 +122,11 @@ pub extern "C" fn keekaboor_write_gerber(
         return with_length(covered, 0);
     }
     let count = covered.flashes as usize;
-    let checked = file_checked(pitch, x, y, &flashes, count, file_room.len());
+    let checked = file_checked(version, pitch, x, y, &flashes, count, file_room.len());
     if checked.number != answers::DONE {
         return refused(checked);
     }
-    let length = put_file(file_room, pitch, x, y, &flashes, count);
+    let length = put_file(file_room, version, pitch, x, y, &flashes, count);
     put_bytes(flash_room, 0, &flashes[0..count * limits::FLASH_RECORD]);
     put_bytes(mark_room, 0, &marks[0..mark_end]);
     with_length(covered, length)

@@ -38,14 +38,14 @@ module _ (a : Answer) (r : Read) (f : List ℕ) where
   either-few : Few (orFlashes a r f)
   either-few = bcase (eqb (a .number) 0) (λ u. subst Few (sym (passed u)) (written-few (flashesOf r) f)) (λ u. subst Few (sym (refused u)) (λ l. omega arith))
 
-module _ (text : List ℕ) (pitch : ℕ) (x y : ℤ) {g : Given} (e : g ≡ readGives pitch x y text (replicate flashRoom 0)) where
+module _ (text : List ℕ) (version pitch : ℕ) (x y : ℤ) {g : Given} (e : g ≡ readGives version pitch x y text (replicate flashRoom 0)) where
   pub few-flashes : length (g .flashesAfter) ≤ flashRoom → g .outcome .flashes ≤ side
   unfolding readGives
   few-flashes =
       let r : Read = readFile pitch x y text in
       let f : List ℕ = replicate flashRoom 0 in
-      subst Few (sym e) (either-few (firstRefusal (readChecks pitch f r)) r f)
+      subst Few (sym e) (either-few (firstRefusal (readChecks version pitch f r)) r f)
 
-  pub read-text : readBackText (g .outcome) (g .flashesAfter) ≡ readText text pitch x y
+  pub read-text : readBackText (g .outcome) (g .flashesAfter) ≡ readText text version pitch x y
   unfolding readText
   read-text = ap (λ (c : Given). readBackText (c .outcome) (c .flashesAfter)) e

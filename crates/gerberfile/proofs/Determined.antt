@@ -18,10 +18,10 @@ pub print-refused-determined : Determined print_refused.Kinds.ps print_refused.K
 print-refused-determined κs a pre x y v w p q = let m = p .left ∙ sym (q .left) in (p .past ∙ sym (q .past), λ i. (tt, (tt, (tt, (tt, (tt, (m i, tt)))))))
 
 pub print-file-determined : Determined print_file.Kinds.ps print_file.Kinds.r print_file.Reads.Pre print_file.Reads.Post
-print-file-determined κs a pre x y v w p q = let m = p .left ∙ sym (q .left) in (p .past ∙ sym (q .past), λ i. (tt, (tt, (tt, (tt, (tt, (tt, (tt, (m i, tt)))))))))
+print-file-determined κs a pre x y v w p q = let m = p .left ∙ sym (q .left) in (p .past ∙ sym (q .past), λ i. (tt, (tt, (tt, (tt, (tt, (tt, (tt, (tt, (m i, tt))))))))))
 
 pub print-read-determined : Determined print_read.Kinds.ps print_read.Kinds.r print_read.Reads.Pre print_read.Reads.Post
-print-read-determined κs a pre x y v w p q = let m = p .left ∙ sym (q .left) in (p .past ∙ sym (q .past), λ i. (tt, (tt, (tt, (tt, (m i, tt))))))
+print-read-determined κs a pre x y v w p q = let m = p .left ∙ sym (q .left) in (p .past ∙ sym (q .past), λ i. (tt, (tt, (tt, (tt, (tt, (m i, tt)))))))
 
 pub answer-determined : Determined answer.Kinds.ps answer.Kinds.r answer.Reads.Pre answer.Reads.Post
-answer-determined κs a pre x y v w p q = let m = p .left ∙ sym (q .left) in (p .past ∙ sym (q .past), λ i. (tt, (tt, (tt, (tt, (tt, (m i, tt)))))))
+answer-determined κs a pre x y v w p q = let m = p .left ∙ sym (q .left) in (p .past ∙ sym (q .past), λ i. (tt, (tt, (tt, (tt, (tt, (tt, (m i, tt))))))))

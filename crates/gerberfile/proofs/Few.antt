@@ -22,7 +22,7 @@ use Rattle.gerber.proofs.Filing.{write-none, write-refused, write-done}
 abbrev Few : ℕ → Given → Type 0
 Few room g = (g .outcome .marks ≤ side) × (g .outcome .length ≤ room)
 
-module _ (w h k : ℕ) (raster : List ℕ) (pitch : ℕ) (x y : ℤ) (f m t : List ℕ) (lf : flashRoom ≤ length f) (lm : markRoom ≤ length m) where
+module _ (w h k : ℕ) (raster : List ℕ) (version pitch : ℕ) (x y : ℤ) (f m t : List ℕ) (lf : flashRoom ≤ length f) (lm : markRoom ≤ length m) where
   abbrev covered : Cover.Given
   covered = coverGives w h k raster f m
 
@@ -30,13 +30,13 @@ module _ (w h k : ℕ) (raster : List ℕ) (pitch : ℕ) (x y : ℤ) (f m t : Li
   T = told w h k raster f m f m lf lm lf lm refl
 
   abbrev checked : Answer
-  checked = firstRefusal (fileChecks pitch x y (flashesIn (covered .outcome .flashes) (covered .flashesAfter)) (length t))
+  checked = firstRefusal (fileChecks version pitch x y (flashesIn (covered .outcome .flashes) (covered .flashesAfter)) (length t))
 
-  pub few : Few (length t) (writeGives w h k raster pitch x y f m t)
+  pub few : Few (length t) (writeGives w h k raster version pitch x y f m t)
   few =
       by-cases (ℕ-discrete (covered .outcome .answer) 0)
       (λ z.
       by-cases (ℕ-discrete (checked .number) 0)
-      (λ p. subst (Few (length t)) (write-done w h k raster pitch x y f m t T z refl p) (T .few-marks, file-fits pitch x y (covered .outcome .flashes) (covered .flashesAfter) (length t) (T .held z) p))
-      (λ n. subst (Few (length t)) (write-refused w h k raster pitch x y f m t T z refl n) (omega arith, omega arith)))
-      (λ n. subst (Few (length t)) (write-none w h k raster pitch x y f m t T n) (T .few-marks, omega arith))
+      (λ p. subst (Few (length t)) (write-done w h k raster version pitch x y f m t T z refl p) (T .few-marks, file-fits version pitch x y (covered .outcome .flashes) (covered .flashesAfter) (length t) (T .held z) p))
+      (λ n. subst (Few (length t)) (write-refused w h k raster version pitch x y f m t T z refl n) (omega arith, omega arith)))
+      (λ n. subst (Few (length t)) (write-none w h k raster version pitch x y f m t T n) (T .few-marks, omega arith))

@@ -13,7 +13,7 @@ use Rattle.text.specs.Decimal.{numberAt}
 use Rattle.text.specs.Signed.{signedAt}
 use Rattle.text.specs.declared.read.Number.the-variants.{Value, Nothing}
 use Rattle.text.specs.declared.signed.Integer.the-variants.{Value as Whole, Nothing as NoInteger}
-use Rattle.gerberfile.specs.Words.{greatest, ended, endedInteger, wholeNumber, wholeInteger, givenPitch, givenX, givenY, askedBy}
+use Rattle.gerberfile.specs.Words.{greatest, ended, endedInteger, wholeNumber, wholeInteger, givenVersion, givenPitch, givenX, givenY, askedBy}
 use Rattle.gerberfile.specs.declared.words.Numbers.the-variants.{Given, Wrong}
 
 -- a signed number of 64 bits is what its bits say
@@ -45,21 +45,26 @@ module _ (word : List ℕ) where
   unfolding wholeInteger
   integer-more z next e l = sym (ap (endedInteger word) e ∙ rw (ne-eqb next (length word) l))
 
-module _ (pitch x y : List ℕ) where
-  pub no-pitch : wholeNumber pitch ≡ Nothing → Wrong 2 ≡ askedBy pitch x y
+module _ (version pitch x y : List ℕ) where
+  pub no-version : wholeNumber version ≡ Nothing → Wrong 2 ≡ askedBy version pitch x y
   unfolding askedBy
-  no-pitch e = sym (ap (λ n. givenPitch n x y) e)
+  no-version e = sym (ap (λ n. givenVersion n pitch x y) e)
 
-  module _ (p n : ℕ) (e : wholeNumber pitch ≡ Value p n) where
-    pub no-x : wholeInteger x ≡ NoInteger → Wrong 3 ≡ askedBy pitch x y
+  module _ (v m : ℕ) (c : wholeNumber version ≡ Value v m) where
+    versioned : askedBy version pitch x y ≡ givenPitch v (wholeNumber pitch) x y
     unfolding askedBy
-    no-x d = sym (ap (λ v. givenPitch v x y) e ∙ ap (λ v. givenX p v y) d)
+    versioned = ap (λ n. givenVersion n pitch x y) c
 
-    module _ (a : ℤ) (k : ℕ) (d : wholeInteger x ≡ Whole a k) where
-      pub no-y : wholeInteger y ≡ NoInteger → Wrong 4 ≡ askedBy pitch x y
-      unfolding askedBy
-      no-y f = sym (ap (λ v. givenPitch v x y) e ∙ ap (λ v. givenX p v y) d ∙ ap (givenY p a) f)
+    pub no-pitch : wholeNumber pitch ≡ Nothing → Wrong 3 ≡ askedBy version pitch x y
+    no-pitch e = sym (versioned ∙ ap (λ n. givenPitch v n x y) e)
 
-      pub all-given : (b : ℤ) (j : ℕ) → wholeInteger y ≡ Whole b j → Given p a b ≡ askedBy pitch x y
-      unfolding askedBy
-      all-given b j f = sym (ap (λ v. givenPitch v x y) e ∙ ap (λ v. givenX p v y) d ∙ ap (givenY p a) f)
+    module _ (p n : ℕ) (e : wholeNumber pitch ≡ Value p n) where
+      pub no-x : wholeInteger x ≡ NoInteger → Wrong 4 ≡ askedBy version pitch x y
+      no-x d = sym (versioned ∙ ap (λ n. givenPitch v n x y) e ∙ ap (λ z. givenX v p z y) d)
+
+      module _ (a : ℤ) (k : ℕ) (d : wholeInteger x ≡ Whole a k) where
+        pub no-y : wholeInteger y ≡ NoInteger → Wrong 5 ≡ askedBy version pitch x y
+        no-y f = sym (versioned ∙ ap (λ n. givenPitch v n x y) e ∙ ap (λ z. givenX v p z y) d ∙ ap (givenY v p a) f)
+
+        pub all-given : (b : ℤ) (j : ℕ) → wholeInteger y ≡ Whole b j → Given v p a b ≡ askedBy version pitch x y
+        all-given b j f = sym (versioned ∙ ap (λ n. givenPitch v n x y) e ∙ ap (λ z. givenX v p z y) d ∙ ap (givenY v p a) f)

@@ -26,19 +26,19 @@ use Rattle.text.specs.declared.read.Next.the-variants.{Spot, Nothing}
 use Rattle.gerber.specs.File.{bytes}
 use Rattle.gerberfile.specs.declared.words.Numbers.the-variants.{Given, Wrong}
 
-module _ (text : List ℕ) (pitch : ℕ) (x y : ℤ) where
+module _ (text : List ℕ) (version pitch : ℕ) (x y : ℤ) where
   -- a text that was refused
-  refused-from : (r : ReadOutcome) (j : Judged) → r ≡ readOutcome j → (r .answer ≡ 0 → ⊥) → refusedText (r .answer) (r .«place_x») (r .«place_y») 0 [] ≡ judgedText text pitch x y j
+  refused-from : (r : ReadOutcome) (j : Judged) → r ≡ readOutcome j → (r .answer ≡ 0 → ⊥) → refusedText (r .answer) (r .«place_x») (r .«place_y») 0 [] ≡ judgedText text version pitch x y j
   refused-from r (Refused a) e n = ap (λ (o : ReadOutcome). refusedText (o .answer) (o .«place_x») (o .«place_y») 0 []) e
   refused-from r (Fine job spot) e n = absurd (n (ap (λ (o : ReadOutcome). o .answer) e))
 
   -- a text that was read as a job: the raster fits its room, and writing the front of the room gives the program's text
   pub record Ready (r : ReadOutcome) (after : List ℕ) : Type 0 where
     pub small : r .width * r .height ≤ rasterRoom
-    pub same : fileText (r .width) (r .height) (r .allowance) (take (r .width * r .height) after) pitch x y ≡ jobText text pitch x y
+    pub same : fileText (r .width) (r .height) (r .allowance) (take (r .width * r .height) after) version pitch x y ≡ jobText text version pitch x y
 
   module _ (room after : List ℕ) (r : ReadOutcome) (long : length room ≡ rasterRoom) (read : ReadJob text room r after) where
-    pub unread : (r .answer ≡ 0 → ⊥) → refusedText (r .answer) (r .«place_x») (r .«place_y») 0 [] ≡ jobText text pitch x y
+    pub unread : (r .answer ≡ 0 → ⊥) → refusedText (r .answer) (r .«place_x») (r .«place_y») 0 [] ≡ jobText text version pitch x y
     unfolding jobText
     unread = refused-from r (judged text rasterRoom) (read .outcome ∙ ap (λ (n : ℕ). readOutcome (judged text n)) long)
 
@@ -57,7 +57,7 @@ module _ (text : List ℕ) (pitch : ℕ) (x y : ℤ) where
         ∙ through-written room 0 raster (omega arith) in
         record {
           small = omega arith;
-          same = ap (λ (bytes : List ℕ). fileText w h (job .allowance) bytes pitch x y) front ∙ sym (ap (judgedText text pitch x y) (ap (judged text) (sym long) ∙ d .found));
+          same = ap (λ (bytes : List ℕ). fileText w h (job .allowance) bytes version pitch x y) front ∙ sym (ap (judgedText text version pitch x y) (ap (judged text) (sym long) ∙ d .found));
         }
 
     pub ready : r .answer ≡ 0 → Ready r after
@@ -65,18 +65,18 @@ module _ (text : List ℕ) (pitch : ℕ) (x y : ℤ) where
         let d = read-done read z in
         subst (λ (o : ReadOutcome). Ready o after) (sym (d .2 .outcome)) (fine-ready (d .0) (d .1) (d .2))
 
-module _ (text : List ℕ) (pitch : ℕ) (x y : ℤ) {found : Next} where
-  pub task-reads : {next : ℕ} → found ≡ Spot next → readText text pitch x y ≡ taskText found text pitch x y
-  task-reads e = sym (ap (λ n. taskText n text pitch x y) e)
+module _ (text : List ℕ) (version pitch : ℕ) (x y : ℤ) {found : Next} where
+  pub task-reads : {next : ℕ} → found ≡ Spot next → readText text version pitch x y ≡ taskText found text version pitch x y
+  task-reads e = sym (ap (λ n. taskText n text version pitch x y) e)
 
-  pub task-writes : found ≡ Nothing → jobText text pitch x y ≡ taskText found text pitch x y
-  task-writes e = sym (ap (λ n. taskText n text pitch x y) e)
+  pub task-writes : found ≡ Nothing → jobText text version pitch x y ≡ taskText found text version pitch x y
+  task-writes e = sym (ap (λ n. taskText n text version pitch x y) e)
 
-module _ (task pitch x y text : List ℕ) where
-  pub wrong-text : (word : ℕ) → askedBy pitch x y ≡ Wrong word → wrongText word ≡ programText task pitch x y text
+module _ (task version pitch x y text : List ℕ) where
+  pub wrong-text : (word : ℕ) → askedBy version pitch x y ≡ Wrong word → wrongText word ≡ programText task version pitch x y text
   unfolding programText
   wrong-text word e = sym (ap (askedText task text) e)
 
-  pub named-text : (p : ℕ) (a b : ℤ) → askedBy pitch x y ≡ Given p a b → taskText (wordAt task 0 (bytes "read")) text p a b ≡ programText task pitch x y text
+  pub named-text : (v p : ℕ) (a b : ℤ) → askedBy version pitch x y ≡ Given v p a b → taskText (wordAt task 0 (bytes "read")) text v p a b ≡ programText task version pitch x y text
   unfolding programText
-  named-text p a b e = sym (ap (askedText task text) e)
+  named-text v p a b e = sym (ap (askedText task text) e)

@@ -69,11 +69,11 @@ long : (n : ℕ) → length (zeros n) ≡ n
 long n = length-replicate n 0
 
 -- a call in rooms with no record in them
-module _ (w h k : ℕ) (raster : List ℕ) (pitch : ℕ) (x y : ℤ) {g : Given} (e : g ≡ writeGives w h k raster pitch x y (zeros flashRoom) (zeros markRoom) (zeros fileRoom)) where
+module _ (w h k : ℕ) (raster : List ℕ) (version pitch : ℕ) (x y : ℤ) {g : Given} (e : g ≡ writeGives w h k raster version pitch x y (zeros flashRoom) (zeros markRoom) (zeros fileRoom)) where
   bounds : (g .outcome .marks ≤ side) × (g .outcome .length ≤ length (zeros fileRoom))
   bounds =
       subst (λ (c : Given). (c .outcome .marks ≤ side) × (c .outcome .length ≤ length (zeros fileRoom))) (sym e)
-      (few w h k raster pitch x y (zeros flashRoom) (zeros markRoom) (zeros fileRoom) (omega (arith, long flashRoom)) (omega (arith, long markRoom)))
+      (few w h k raster version pitch x y (zeros flashRoom) (zeros markRoom) (zeros fileRoom) (omega (arith, long flashRoom)) (omega (arith, long markRoom)))
 
   pub few-marks : g .outcome .marks ≤ side
   few-marks = bounds .0
@@ -81,8 +81,8 @@ module _ (w h k : ℕ) (raster : List ℕ) (pitch : ℕ) (x y : ℤ) {g : Given}
   pub short-file : g .outcome .length ≤ fileRoom
   short-file = omega (arith, bounds .1, long fileRoom)
 
-  pub file-text : g .outcome .answer ≡ 0 → take (g .outcome .length) (g .fileAfter) ≡ fileText w h k raster pitch x y
+  pub file-text : g .outcome .answer ≡ 0 → take (g .outcome .length) (g .fileAfter) ≡ fileText w h k raster version pitch x y
   file-text z = sym (given-file g z) ∙ ap givenText e
 
-  pub refused-text : (g .outcome .answer ≡ 0 → ⊥) → refusedText (g .outcome .answer) (g .outcome .«place_x») (g .outcome .«place_y») (g .outcome .marks) (g .marksAfter) ≡ fileText w h k raster pitch x y
+  pub refused-text : (g .outcome .answer ≡ 0 → ⊥) → refusedText (g .outcome .answer) (g .outcome .«place_x») (g .outcome .«place_y») (g .outcome .marks) (g .marksAfter) ≡ fileText w h k raster version pitch x y
   refused-text n = sym (given-refused g n) ∙ ap givenText e

@@ -37,33 +37,33 @@ givenText g =
     cond (eqb (o .answer) 0) (take (o .length) (g .fileAfter)) (refusedText (o .answer) (o .«place_x») (o .«place_y») (o .marks) (g .marksAfter))
 
 -- the rooms are lent with no record in them
-abbrev pub fileText : ℕ → ℕ → ℕ → List ℕ → ℕ → ℤ → ℤ → List ℕ
-fileText w h k raster pitch x y = givenText (writeGives w h k raster pitch x y (replicate flashRoom 0) (replicate markRoom 0) (replicate fileRoom 0))
+abbrev pub fileText : ℕ → ℕ → ℕ → List ℕ → ℕ → ℕ → ℤ → ℤ → List ℕ
+fileText w h k raster version pitch x y = givenText (writeGives w h k raster version pitch x y (replicate flashRoom 0) (replicate markRoom 0) (replicate fileRoom 0))
 
 -- the job is read first
-abbrev pub judgedText : List ℕ → ℕ → ℤ → ℤ → Judged → List ℕ
-judgedText text pitch x y (Refused a) = refusedText (a .number) (a .x) (a .y) 0 []
-judgedText text pitch x y (Fine job spot) =
-    fileText (job .size .width) (job .size .height) (job .allowance) (rasterFrom text (job .size .width) (job .size .height) spot) pitch x y
+abbrev pub judgedText : List ℕ → ℕ → ℕ → ℤ → ℤ → Judged → List ℕ
+judgedText text version pitch x y (Refused a) = refusedText (a .number) (a .x) (a .y) 0 []
+judgedText text version pitch x y (Fine job spot) =
+    fileText (job .size .width) (job .size .height) (job .allowance) (rasterFrom text (job .size .width) (job .size .height) spot) version pitch x y
 
-unfoldable pub jobText : List ℕ → ℕ → ℤ → ℤ → List ℕ
-jobText text pitch x y = judgedText text pitch x y (judged text rasterRoom)
+unfoldable pub jobText : List ℕ → ℕ → ℕ → ℤ → ℤ → List ℕ
+jobText text version pitch x y = judgedText text version pitch x y (judged text rasterRoom)
 
 -- a file's flashes in its order, or the refusal
 abbrev pub readBackText : ReadOutcome → List ℕ → List ℕ
 readBackText o f = cond (eqb (o .answer) 0) (flashLines (o .flashes) f) (refusedText (o .answer) (o .«place_x») (o .«place_y») 0 [])
 
-unfoldable pub readText : List ℕ → ℕ → ℤ → ℤ → List ℕ
-readText text pitch x y = let g = readGives pitch x y text (replicate flashRoom 0) in readBackText (g .outcome) (g .flashesAfter)
+unfoldable pub readText : List ℕ → ℕ → ℕ → ℤ → ℤ → List ℕ
+readText text version pitch x y = let g = readGives version pitch x y text (replicate flashRoom 0) in readBackText (g .outcome) (g .flashesAfter)
 
 -- the task `read` reads a file back; any other writes one
-abbrev pub taskText : Next → List ℕ → ℕ → ℤ → ℤ → List ℕ
-taskText (Spot next) text pitch x y = readText text pitch x y
-taskText Nothing text pitch x y = jobText text pitch x y
+abbrev pub taskText : Next → List ℕ → ℕ → ℕ → ℤ → ℤ → List ℕ
+taskText (Spot next) text version pitch x y = readText text version pitch x y
+taskText Nothing text version pitch x y = jobText text version pitch x y
 
 abbrev pub askedText : List ℕ → List ℕ → Numbers → List ℕ
 askedText task text (Wrong word) = wrongText word
-askedText task text (Named pitch x y) = taskText (wordAt task 0 (bytes "read")) text pitch x y
+askedText task text (Named version pitch x y) = taskText (wordAt task 0 (bytes "read")) text version pitch x y
 
-unfoldable pub programText : List ℕ → List ℕ → List ℕ → List ℕ → List ℕ → List ℕ
-programText task pitch x y text = askedText task text (askedBy pitch x y)
+unfoldable pub programText : List ℕ → List ℕ → List ℕ → List ℕ → List ℕ → List ℕ → List ℕ
+programText task version pitch x y text = askedText task text (askedBy version pitch x y)

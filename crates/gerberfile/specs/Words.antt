@@ -1,4 +1,4 @@
--- The numbers that a call of the Gerber program names: the pitch, 0 to 2^64 - 1, and the origin, two numbers of -2^63 to 2^63 - 1.
+-- The numbers that a call of the Gerber program names: the version and the pitch, 0 to 2^64 - 1, and the origin, two numbers of -2^63 to 2^63 - 1.
 use mathlib.Core.Bool.{cond}
 use mathlib.Core.List.{List}
 use Prim.Native.Nat.{ℕ, _-_, _^_}
@@ -32,18 +32,22 @@ wholeNumber word = ended word (numberAt word 0 greatest)
 unfoldable pub wholeInteger : List ℕ → Integer
 wholeInteger word = endedInteger word (signedAt word 0 greatest)
 
--- the first of the words 2, 3 and 4 that is no number is wrong
-abbrev pub givenY : ℕ → ℤ → Integer → Numbers
-givenY p x (Whole y next) = Given p x y
-givenY p x NoInteger = Wrong 4
+-- the first of the words 2 to 5 that is no number is wrong
+abbrev pub givenY : ℕ → ℕ → ℤ → Integer → Numbers
+givenY v p x (Whole y next) = Given v p x y
+givenY v p x NoInteger = Wrong 5
 
-abbrev pub givenX : ℕ → Integer → List ℕ → Numbers
-givenX p (Whole x next) yWord = givenY p x (wholeInteger yWord)
-givenX p NoInteger yWord = Wrong 3
+abbrev pub givenX : ℕ → ℕ → Integer → List ℕ → Numbers
+givenX v p (Whole x next) yWord = givenY v p x (wholeInteger yWord)
+givenX v p NoInteger yWord = Wrong 4
 
-abbrev pub givenPitch : Number → List ℕ → List ℕ → Numbers
-givenPitch (Value p next) xWord yWord = givenX p (wholeInteger xWord) yWord
-givenPitch Nothing xWord yWord = Wrong 2
+abbrev pub givenPitch : ℕ → Number → List ℕ → List ℕ → Numbers
+givenPitch v (Value p next) xWord yWord = givenX v p (wholeInteger xWord) yWord
+givenPitch v Nothing xWord yWord = Wrong 3
 
-unfoldable pub askedBy : List ℕ → List ℕ → List ℕ → Numbers
-askedBy pitchWord xWord yWord = givenPitch (wholeNumber pitchWord) xWord yWord
+abbrev pub givenVersion : Number → List ℕ → List ℕ → List ℕ → Numbers
+givenVersion (Value v next) pitchWord xWord yWord = givenPitch v (wholeNumber pitchWord) xWord yWord
+givenVersion Nothing pitchWord xWord yWord = Wrong 2
+
+unfoldable pub askedBy : List ℕ → List ℕ → List ℕ → List ℕ → Numbers
+askedBy versionWord pitchWord xWord yWord = givenVersion (wholeNumber versionWord) pitchWord xWord yWord

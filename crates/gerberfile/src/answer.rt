@@ -18,9 +18,9 @@ use job::read::keekaboor_read_job;
 use text::read::Next;
 use text::read::read_word;
 
-fn print_job(text: &[u8], pitch: u64, x: i64, y: i64, out: &mut [u8]) -> usize
+fn print_job(text: &[u8], version: u64, pitch: u64, x: i64, y: i64, out: &mut [u8]) -> usize
     requires { ⌜ fileRoom ≤ length (now out) ⌝ }
-    ensures { λ r. ⌜ Written (now (out .entry)) 0 (jobText (now (text .entry)) pitch x y) r (now (out .exit)) ⌝ }
+    ensures { λ r. ⌜ Written (now (out .entry)) 0 (jobText (now (text .entry)) version pitch x y) r (now (out .exit)) ⌝ }
 {
     let mut room = [0u8; RASTER_ROOM];
     let read = keekaboor_read_job(text, &mut room);
@@ -34,6 +34,7 @@ fn print_job(text: &[u8], pitch: u64, x: i64, y: i64, out: &mut [u8]) -> usize
         read.height,
         read.allowance,
         &room[..size],
+        version,
         pitch,
         x,
         y,
@@ -42,22 +43,46 @@ fn print_job(text: &[u8], pitch: u64, x: i64, y: i64, out: &mut [u8]) -> usize
 }
 
 // The task `read` reads a file back.
-fn perform(task: &[u8], text: &[u8], pitch: u64, x: i64, y: i64, out: &mut [u8]) -> usize
+fn perform(
+    task: &[u8],
+    text: &[u8],
+    version: u64,
+    pitch: u64,
+    x: i64,
+    y: i64,
+    out: &mut [u8],
+) -> usize
     requires { ⌜ fileRoom ≤ length (now out) ⌝ }
-    ensures { λ r. ⌜ Written (now (out .entry)) 0 (taskText (wordAt (now (task .entry)) 0 (bytes "read")) (now (text .entry)) pitch x y) r (now (out .exit)) ⌝ }
+    ensures { λ r. ⌜ Written (now (out .entry)) 0 (taskText (wordAt (now (task .entry)) 0 (bytes "read")) (now (text .entry)) version pitch x y) r (now (out .exit)) ⌝ }
 {
     match read_word(task, 0, b"read") {
-        Next::Spot(_) => print_read(text, pitch, x, y, out),
-        Next::Nothing => print_job(text, pitch, x, y, out),
+        Next::Spot(_) => print_read(text, version, pitch, x, y, out),
+        Next::Nothing => print_job(text, version, pitch, x, y, out),
     }
 }
 
-pub fn answer(task: &[u8], pitch: &[u8], x: &[u8], y: &[u8], text: &[u8], out: &mut [u8]) -> usize
+pub fn answer(
+    task: &[u8],
+    version: &[u8],
+    pitch: &[u8],
+    x: &[u8],
+    y: &[u8],
+    text: &[u8],
+    out: &mut [u8],
+) -> usize
     requires { ⌜ fileRoom ≤ length (now out) ⌝ }
-    ensures { λ r. ⌜ Written (now (out .entry)) 0 (programText (now (task .entry)) (now (pitch .entry)) (now (x .entry)) (now (y .entry)) (now (text .entry))) r (now (out .exit)) ⌝ }
+    ensures { λ r. ⌜ Written (now (out .entry)) 0 (programText (now (task .entry)) (now (version .entry)) (now (pitch .entry)) (now (x .entry)) (now (y .entry)) (now (text .entry))) r (now (out .exit)) ⌝ }
 {
-    match asked(pitch, x, y) {
+    match asked(version, pitch, x, y) {
         Numbers::Wrong(word) => print_wrong(word, out),
-        Numbers::Given(nanometres, across, up) => perform(task, text, nanometres, across, up, out),
+        Numbers::Given(form, nanometres, across, up) => perform(
+            task,
+            text,
+            form,
+            nanometres,
+            across,
+            up,
+            out,
+        ),
     }
 }

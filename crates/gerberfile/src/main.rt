@@ -1,5 +1,5 @@
 // The Gerber program: a job from standard input written as a Gerber file, or a Gerber file read back, to standard output.
-// Its words are the task, `write` or `read`, the pitch, and the origin's two numbers.
+// Its words are the task, `write` or `read`, the version, the pitch, and the origin's two numbers.
 mod answer;
 mod print;
 mod words;
@@ -18,17 +18,20 @@ const READ_ROOM: usize = FILE_ROOM;
 fn main() {
     let mut task = [0u8; WORD_ROOM];
     let task_end = os::arg(1, &mut task);
+    let mut version = [0u8; WORD_ROOM];
+    let version_end = os::arg(2, &mut version);
     let mut pitch = [0u8; WORD_ROOM];
-    let pitch_end = os::arg(2, &mut pitch);
+    let pitch_end = os::arg(3, &mut pitch);
     let mut x = [0u8; WORD_ROOM];
-    let x_end = os::arg(3, &mut x);
+    let x_end = os::arg(4, &mut x);
     let mut y = [0u8; WORD_ROOM];
-    let y_end = os::arg(4, &mut y);
+    let y_end = os::arg(5, &mut y);
     let mut text = [0u8; READ_ROOM];
     let length = io::read_full(STDIN_FILENO, &mut text);
     let mut out = [0u8; FILE_ROOM];
     let printed = answer(
         &task[..task_end],
+        &version[..version_end],
         &pitch[..pitch_end],
         &x[..x_end],
         &y[..y_end],

@@ -57,13 +57,14 @@ pub fn print_file(
     height: u64,
     allowance: u64,
     raster: &[u8],
+    version: u64,
     pitch: u64,
     x: i64,
     y: i64,
     out: &mut [u8],
 ) -> usize
     requires { ⌜ fileRoom ≤ length (now out) ⌝ }
-    ensures { λ r. ⌜ Written (now (out .entry)) 0 (fileText width height allowance (now (raster .entry)) pitch x y) r (now (out .exit)) ⌝ }
+    ensures { λ r. ⌜ Written (now (out .entry)) 0 (fileText width height allowance (now (raster .entry)) version pitch x y) r (now (out .exit)) ⌝ }
 {
     let mut flash_room = [0u8; FLASH_ROOM];
     let mut mark_room = [0u8; MARK_ROOM];
@@ -75,6 +76,7 @@ pub fn print_file(
         raster,
         &mut flash_room,
         &mut mark_room,
+        version,
         pitch,
         x,
         y,
@@ -98,11 +100,11 @@ fn print_flashes(o: ReadOutcome, records: &[u8], out: &mut [u8]) -> usize
     put_record_lines(out, 0, b"flash", records, FLASH_RECORD, o.flashes as usize)
 }
 
-pub fn print_read(text: &[u8], pitch: u64, x: i64, y: i64, out: &mut [u8]) -> usize
+pub fn print_read(text: &[u8], version: u64, pitch: u64, x: i64, y: i64, out: &mut [u8]) -> usize
     requires { ⌜ fileRoom ≤ length (now out) ⌝ }
-    ensures { λ r. ⌜ Written (now (out .entry)) 0 (readText (now (text .entry)) pitch x y) r (now (out .exit)) ⌝ }
+    ensures { λ r. ⌜ Written (now (out .entry)) 0 (readText (now (text .entry)) version pitch x y) r (now (out .exit)) ⌝ }
 {
     let mut flash_room = [0u8; FLASH_ROOM];
-    let o = keekaboor_read_gerber(text, pitch, x, y, &mut flash_room);
+    let o = keekaboor_read_gerber(text, version, pitch, x, y, &mut flash_room);
     print_flashes(o, &flash_room, out)
 }

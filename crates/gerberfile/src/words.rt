@@ -6,19 +6,21 @@ use text::read::read_number;
 use text::signed::Integer;
 use text::signed::read_signed;
 
-// Pitch and origin, or which word is no number.
+// Version, pitch and origin, or which word is no number.
 pub enum Numbers {
-    Given(u64, i64, i64),
+    Given(u64, u64, i64, i64),
     Wrong(u64),
 }
 
 const GREATEST: u64 = 18446744073709551615;
 
-const PITCH_WORD: u64 = 2;
+const VERSION_WORD: u64 = 2;
 
-const X_WORD: u64 = 3;
+const PITCH_WORD: u64 = 3;
 
-const Y_WORD: u64 = 4;
+const X_WORD: u64 = 4;
+
+const Y_WORD: u64 = 5;
 
 fn whole_number(word: &[u8]) -> Number
     ensures { λ r. ⌜ r ≡ wholeNumber (now (word .entry)) ⌝ }
@@ -46,9 +48,12 @@ fn whole_integer(word: &[u8]) -> Integer
     }
 }
 
-pub fn asked(pitch: &[u8], x: &[u8], y: &[u8]) -> Numbers
-    ensures { λ r. ⌜ r ≡ askedBy (now (pitch .entry)) (now (x .entry)) (now (y .entry)) ⌝ }
+pub fn asked(version: &[u8], pitch: &[u8], x: &[u8], y: &[u8]) -> Numbers
+    ensures { λ r. ⌜ r ≡ askedBy (now (version .entry)) (now (pitch .entry)) (now (x .entry)) (now (y .entry)) ⌝ }
 {
+    let Number::Value(form, _) = whole_number(version) else {
+        return Numbers::Wrong(VERSION_WORD);
+    };
     let Number::Value(nanometres, _) = whole_number(pitch) else {
         return Numbers::Wrong(PITCH_WORD);
     };
@@ -58,5 +63,5 @@ pub fn asked(pitch: &[u8], x: &[u8], y: &[u8]) -> Numbers
     let Integer::Value(up, _) = whole_integer(y) else {
         return Numbers::Wrong(Y_WORD);
     };
-    Numbers::Given(nanometres, across, up)
+    Numbers::Given(form, nanometres, across, up)
 }

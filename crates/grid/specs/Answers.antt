@@ -87,6 +87,10 @@ badListLine = 16
 abbrev pub listLong : ℕ
 listLong = 17
 
+-- document 02, R-9
+abbrev pub versionUnknown : ℕ
+versionUnknown = 21
+
 -- document 02, R-2: reading back
 abbrev pub badFileLine : ℕ
 badFileLine = 30

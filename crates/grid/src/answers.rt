@@ -46,6 +46,8 @@ pub const BAD_LIST_LINE: u64 = 16;
 
 pub const LIST_LONG: u64 = 17;
 
+pub const VERSION_UNKNOWN: u64 = 21;
+
 pub const BAD_FILE_LINE: u64 = 30;
 
 impl Answer {

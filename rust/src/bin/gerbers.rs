@@ -1,5 +1,5 @@
 //! Writes Gerber files by the exported function into a folder, for a viewer: of each area NAME.gbr, and NAME.txt with its squares
-//! from the top row down, NAME being its number and the pitch. Origins lie left of, below and right of panel zero.
+//! from the top row down, NAME being its number, the version and the pitch. Origins lie left of, below and right of panel zero.
 
 use keekaboor_tests::areas::{Area, Random};
 use keekaboor_tests::ffi;
@@ -32,13 +32,15 @@ fn main() {
         let area = Area::from_spans(height, &spans);
         let pitch = [1_000_000, 5_000][k % 2];
         let origin = |n: usize| [0, -3_000_000_000, 1_234_567_891, -77][n % 4];
-        let frame = Frame { pitch, x: origin(k), y: origin(k / 2 + 1) };
-        let (mut flashes, mut marks, mut file) = ([0; FLASH_ROOM], [0; MARK_ROOM], vec![0; FILE_ROOM]);
-        let numbers = (width as u64, height as u64, 64);
-        let o = ffi::write_gerber(numbers, &area.raster, (&mut flashes, &mut marks), frame, &mut file);
-        assert_eq!(o.answer, 0, "area {k}");
-        let name = Path::new(&folder).join(format!("{k:02}-{pitch}"));
-        std::fs::write(name.with_extension("gbr"), &file[..o.length as usize]).unwrap();
-        std::fs::write(name.with_extension("txt"), squares(&area)).unwrap();
+        for version in [1, 2] {
+            let frame = Frame { version, pitch, x: origin(k), y: origin(k / 2 + 1) };
+            let (mut flashes, mut marks, mut file) = ([0; FLASH_ROOM], [0; MARK_ROOM], vec![0; FILE_ROOM]);
+            let numbers = (width as u64, height as u64, 64);
+            let o = ffi::write_gerber(numbers, &area.raster, (&mut flashes, &mut marks), frame, &mut file);
+            assert_eq!(o.answer, 0, "area {k}");
+            let name = Path::new(&folder).join(format!("{k:02}-{version}-{pitch}"));
+            std::fs::write(name.with_extension("gbr"), &file[..o.length as usize]).unwrap();
+            std::fs::write(name.with_extension("txt"), squares(&area)).unwrap();
+        }
     }
 }

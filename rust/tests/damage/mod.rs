@@ -11,10 +11,20 @@ pub struct File {
 /// What is broken, and how; a file that has nothing to break stays as it is.
 type Damage = fn(&mut File, &mut Random);
 
-pub const KINDS: [(&str, Damage); 32] = [
+pub const KINDS: [(&str, Damage); 33] = [
     ("none", |_, _| ()),
     ("a head line changed", |file, random| change_byte(&mut file.lines[random.below(3)], random)),
     ("a head line missing", |file, random| drop(file.lines.remove(random.below(3)))),
+    ("a first line that is half a comment", |file, random| {
+        let attribute = "TF.FileFunction,Copper,L1,Top*";
+        let line = [
+            format!("{attribute}%"),
+            format!("G04 {attribute}"),
+            format!("G04 #@! %{attribute}%"),
+            format!("%G04 #@! {attribute}%"),
+        ];
+        file.lines[0] = line[random.below(4)].clone();
+    }),
     ("an aperture repeated", |file, random| {
         let sizes = file.places("%ADD");
         if sizes.len() > 1 {

@@ -10,7 +10,7 @@ array-share-prefix-out : tie.Need-array-share-prefix-out
 array-share-prefix-out c = within (c .before .answer .ensures)
 
 slice-aggregate-write-all : tie.Need-slice-aggregate-write-all
-slice-aggregate-write-all c = let a = c .before .before .answer in sym (length-take-le (a .result) (a .last .1 .1 .1 .1 .1 .0) (within (a .ensures)))
+slice-aggregate-write-all c = let a = c .before .before .answer in sym (length-take-le (a .result) (a .last .1 .1 .1 .1 .1 .1 .0) (within (a .ensures)))
 
 pub main-spec : {M : Type 1} → statement M
 main-spec =
@@ -26,6 +26,10 @@ main-spec =
     (λ c κs. search needs)
     (λ c. search needs)
     (λ c κs. search needs)
+    (λ c. search needs)
+    (λ c κs. search needs)
+    (λ c. search needs)
+    (λ c. search needs)
     (λ c. search needs)
     (λ c. search needs)
     (λ c. search needs)

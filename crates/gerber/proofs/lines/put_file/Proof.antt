@@ -32,7 +32,7 @@ drawn : (s : tie.Start) → Drawns (flashes s)
 drawn s = held-drawn (s .args .flashes) (now (s .args .records)) (s .pre .0 .1)
 
 abbrev file : tie.Start → List ℕ
-file s = gerberFile (s .args .pitch) (s .args .x) (s .args .y) (flashes s)
+file s = gerberFile (s .args .version) (s .args .pitch) (s .args .x) (s .args .y) (flashes s)
 
 abbrev listed : tie.Start → List ℕ
 listed s = apertureLines (s .args .pitch) 0 (apertures (flashes s))
@@ -40,7 +40,7 @@ listed s = apertureLines (s .args .pitch) 0 (apertures (flashes s))
 abbrev flashed : tie.Start → List ℕ
 flashed s = flashLines (s .args .pitch) (s .args .x) (s .args .y) (apertures (flashes s)) none (flashes s)
 
-parts : (s : tie.Start) → file s ≡ headLines ++ (listed s ++ (flashed s ++ endLine))
+parts : (s : tie.Start) → file s ≡ headLines (s .args .version) ++ (listed s ++ (flashed s ++ endLine))
 unfolding gerberFile
 parts s = refl
 
@@ -70,7 +70,7 @@ few n =
     (omega (arith, n .note-sizes .ensures .1), omega (arith, n .note-sizes .ensures .1, n .note-sizes .ensures .2))
 
 headed : (c : tie.After-put-head) → let s = c .before .before .before .before .before .before .before in Remains (now (s .args .room)) 0 (file s) (c .put-head .last .0) (c .put-head .result) (listed s ++ (flashed s ++ endLine))
-headed c = let s = c .before .before .before .before .before .before .before in piece (begun s) headLines (listed s ++ (flashed s ++ endLine)) (parts s) (c .put-head .ensures)
+headed c = let s = c .before .before .before .before .before .before .before in piece (begun s) (headLines (s .args .version)) (listed s ++ (flashed s ++ endLine)) (parts s) (c .put-head .ensures)
 
 apertured : (c : tie.After-put-apertures) → let s = c .before .before .before .before .before .before .before .before .before .before .before .before in Remains (now (s .args .room)) 0 (file s) (c .put-apertures .last .0) (c .put-apertures .result) (flashed s ++ endLine)
 apertured c =
@@ -85,7 +85,7 @@ through c =
     (subst (λ bytes. Written (c .before .before .before .before .before .put-apertures .last .0) (c .before .before .before .before .before .put-apertures .result) bytes (c .put-flashes .result) (c .put-flashes .last .0)) (as-flashed (c .before .before .before .before .before .before .before .before .before .before .before .before .before)) (c .put-flashes .ensures))
 
 put-head-requires : tie.Need-put-head-requires
-put-head-requires c κs = let s = c .before .before .before .before .before .before in omega (arith, fits-next (begun s) headLines (listed s ++ (flashed s ++ endLine)) (parts s))
+put-head-requires c κs = let s = c .before .before .before .before .before .before in omega (arith, fits-next (begun s) (headLines (s .args .version)) (listed s ++ (flashed s ++ endLine)) (parts s))
 
 put-apertures-requires : tie.Need-put-apertures-requires
 put-apertures-requires c κs =

@@ -49,12 +49,12 @@ tells c =
 
 -- the file's checks, with the origin as it was given
 checked : (c : tie.After-file-checked) → let a = c .before .before .before .before .before .before .before .before .before .before .before .before .before .before .before .args in let k = c .before .before .before .before .before .before in
-    c .file-checked .result ≡ firstRefusal (fileChecks (a .pitch) (a .x) (a .y) (flashesIn (aside k .outcome .flashes) (aside k .flashesAfter)) (length (now (a .file-room))))
+    c .file-checked .result ≡ firstRefusal (fileChecks (a .version) (a .pitch) (a .x) (a .y) (flashesIn (aside k .outcome .flashes) (aside k .flashesAfter)) (length (now (a .file-room))))
 checked c =
     let s = c .before .before .before .before .before .before .before .before .before .before .before .before .before .before .before in
     let k = c .before .before .before .before .before .before in
     c .file-checked .ensures
-    ∙ (λ i. firstRefusal (fileChecks (s .args .pitch) (toZ-ofZ (s .fits .x) i) (toZ-ofZ (s .fits .y) i) (flashesIn (aside k .outcome .flashes) (aside k .flashesAfter)) (length (now (s .args .file-room)))))
+    ∙ (λ i. firstRefusal (fileChecks (s .args .version) (s .args .pitch) (toZ-ofZ (s .fits .x) i) (toZ-ofZ (s .fits .y) i) (flashesIn (aside k .outcome .flashes) (aside k .flashesAfter)) (length (now (s .args .file-room)))))
 
 returns : tie.Need-returns
 returns c =
@@ -62,7 +62,7 @@ returns c =
     let a = s .args in
     let k = c .before .before .before .before .before in
     (λ i. record { outcome = c .with-length .ensures i; flashesAfter = k .keekaboor-cover .last .1 .1 .1 .1 .0; marksAfter = k .keekaboor-cover .last .1 .1 .1 .1 .1 .0; fileAfter = now (a .file-room) })
-    ∙ write-short (a .width) (a .height) (a .allowance) (now (a .raster)) (a .pitch) (a .x) (a .y) (now (a .flash-room)) (now (a .mark-room)) (now (a .file-room)) (k .keekaboor-cover .ensures)
+    ∙ write-short (a .width) (a .height) (a .allowance) (now (a .raster)) (a .version) (a .pitch) (a .x) (a .y) (now (a .flash-room)) (now (a .mark-room)) (now (a .file-room)) (k .keekaboor-cover .ensures)
     (sym (c .before .before .before .before .before .before .before .before .before .rooms-fit .ensures) ∙ not-true _ (c .before .before .before .before .before .before .before .before .if1 .taken))
 
 -- the marks' bytes, from the first on
@@ -82,7 +82,7 @@ returns-2 c =
     let p = c .before .before .before in
     let marks = p .put-bytes .ensures .left ∙ ap (λ n. written (now (a .mark-room)) 0 (take n (aside k .marksAfter))) (first-bytes (aside k .outcome .marks * markRecord)) in
     (λ i. record { outcome = c .with-length2 .ensures i; flashesAfter = now (a .flash-room); marksAfter = marks i; fileAfter = now (a .file-room) })
-    ∙ write-none (a .width) (a .height) (a .allowance) (now (a .raster)) (a .pitch) (a .x) (a .y) (now (a .flash-room)) (now (a .mark-room)) (now (a .file-room)) (tells k) (c .before .before .before .before .before .before .before .if2 .taken)
+    ∙ write-none (a .width) (a .height) (a .allowance) (now (a .raster)) (a .version) (a .pitch) (a .x) (a .y) (now (a .flash-room)) (now (a .mark-room)) (now (a .file-room)) (tells k) (c .before .before .before .before .before .before .before .if2 .taken)
 
 file-checked-requires : tie.Need-file-checked-requires
 file-checked-requires c κs = tells (c .before .before .before .before .before) .held (c .before .if2 .left)
@@ -94,7 +94,7 @@ returns-3 c =
     let q = c .before .before .before in
     let k = c .before .before .before .before .before .before .before .before .before in
     (λ i. record { outcome = c .refused .ensures i; flashesAfter = now (a .flash-room); marksAfter = now (a .mark-room); fileAfter = now (a .file-room) })
-    ∙ write-refused (a .width) (a .height) (a .allowance) (now (a .raster)) (a .pitch) (a .x) (a .y) (now (a .flash-room)) (now (a .mark-room)) (now (a .file-room)) (tells k) (c .before .before .before .before .before .if2 .left) (checked q) (c .before .if3 .taken)
+    ∙ write-refused (a .width) (a .height) (a .allowance) (now (a .raster)) (a .version) (a .pitch) (a .x) (a .y) (now (a .flash-room)) (now (a .mark-room)) (now (a .file-room)) (tells k) (c .before .before .before .before .before .if2 .left) (checked q) (c .before .if3 .taken)
 
 put-file-requires : tie.Need-put-file-requires
 put-file-requires c κs =
@@ -105,11 +105,11 @@ put-file-requires c κs =
     let held = tells k .held (c .before .before .before .before .before .before .if2 .left) in
     let pass = sym (ap (λ (b : Answer). b .number) (checked q)) ∙ c .before .before .if3 .left in
     let qs = flashesIn (aside k .outcome .flashes) (aside k .flashesAfter) in
-    let all = checks-passed (a .pitch) (a .x) (a .y) qs (length (now (a .file-room))) pass in
-    let same : length (gerberFile (a .pitch) (toZ w64 (ofZ w64 (a .x))) (toZ w64 (ofZ w64 (a .y))) qs) ≡ length (gerberFile (a .pitch) (a .x) (a .y) qs) =
-    λ i. length (gerberFile (a .pitch) (toZ-ofZ (s .fits .x) i) (toZ-ofZ (s .fits .y) i) qs) in (
+    let all = checks-passed (a .version) (a .pitch) (a .x) (a .y) qs (length (now (a .file-room))) pass in
+    let same : length (gerberFile (a .version) (a .pitch) (toZ w64 (ofZ w64 (a .x))) (toZ w64 (ofZ w64 (a .y))) qs) ≡ length (gerberFile (a .version) (a .pitch) (a .x) (a .y) qs) =
+    λ i. length (gerberFile (a .version) (a .pitch) (toZ-ofZ (s .fits .x) i) (toZ-ofZ (s .fits .y) i) qs) in (
       (all .0, held, (λ i. centresFit (a .pitch) (toZ-ofZ (s .fits .x) i) (toZ-ofZ (s .fits .y) i) qs) ∙ all .1),
-      omega (arith, file-fits (a .pitch) (a .x) (a .y) (aside k .outcome .flashes) (aside k .flashesAfter) (length (now (a .file-room))) held pass),
+      omega (arith, file-fits (a .version) (a .pitch) (a .x) (a .y) (aside k .outcome .flashes) (aside k .flashesAfter) (length (now (a .file-room))) held pass),
     )
 
 put-bytes-requires-2 : tie.Need-put-bytes-requires-2
@@ -130,13 +130,13 @@ returns-4 c =
     let k = c .before .before .before .before .before .before .before .before .before .before .before .before .before .before .before .before .before .before .before .before .before .before .before .before .before .before in
     let qs = flashesIn (aside k .outcome .flashes) (aside k .flashesAfter) in
     let file = c .before .before .before .before .before .before .before .before .before .before .before .before .before .before .before .put-file .ensures in
-    let long : c .before .before .before .before .before .before .before .before .before .before .before .before .before .before .before .put-file .result ≡ length (gerberFile (a .pitch) (a .x) (a .y) qs) = file .past ∙ (λ i. 0 + length (gerberFile (a .pitch) (toZ-ofZ (s .fits .x) i) (toZ-ofZ (s .fits .y) i) qs)) ∙ zero-add (length (gerberFile (a .pitch) (a .x) (a .y) qs)) in
-    let filed = file .left ∙ (λ i. written (now (a .file-room)) 0 (gerberFile (a .pitch) (toZ-ofZ (s .fits .x) i) (toZ-ofZ (s .fits .y) i) qs)) in
+    let long : c .before .before .before .before .before .before .before .before .before .before .before .before .before .before .before .put-file .result ≡ length (gerberFile (a .version) (a .pitch) (a .x) (a .y) qs) = file .past ∙ (λ i. 0 + length (gerberFile (a .version) (a .pitch) (toZ-ofZ (s .fits .x) i) (toZ-ofZ (s .fits .y) i) qs)) ∙ zero-add (length (gerberFile (a .version) (a .pitch) (a .x) (a .y) qs)) in
+    let filed = file .left ∙ (λ i. written (now (a .file-room)) 0 (gerberFile (a .version) (a .pitch) (toZ-ofZ (s .fits .x) i) (toZ-ofZ (s .fits .y) i) qs)) in
     let flashes = c .before .before .before .before .before .before .before .before .before .put-bytes2 .ensures .left ∙ ap (λ n. written (now (a .flash-room)) 0 (take n (aside k .flashesAfter))) (first-bytes (aside k .outcome .flashes * flashRecord)) in
     let marks = c .before .before .before .put-bytes3 .ensures .left ∙ ap (λ n. written (now (a .mark-room)) 0 (take n (aside k .marksAfter))) (first-bytes (aside k .outcome .marks * markRecord)) in
     let pass = sym (ap (λ (b : Answer). b .number) (checked q)) ∙ c .before .before .before .before .before .before .before .before .before .before .before .before .before .before .before .before .before .before .if3 .left in
     (λ i. record { outcome = (c .with-length3 .ensures ∙ ap (withLength (aside k .outcome)) long) i; flashesAfter = flashes i; marksAfter = marks i; fileAfter = filed i })
-    ∙ write-done (a .width) (a .height) (a .allowance) (now (a .raster)) (a .pitch) (a .x) (a .y) (now (a .flash-room)) (now (a .mark-room)) (now (a .file-room)) (tells k) (c .before .before .before .before .before .before .before .before .before .before .before .before .before .before .before .before .before .before .before .before .before .before .if2 .left) refl pass
+    ∙ write-done (a .width) (a .height) (a .allowance) (now (a .raster)) (a .version) (a .pitch) (a .x) (a .y) (now (a .flash-room)) (now (a .mark-room)) (now (a .file-room)) (tells k) (c .before .before .before .before .before .before .before .before .before .before .before .before .before .before .before .before .before .before .before .before .before .before .if2 .left) refl pass
 
 pub keekaboor-write-gerber-spec : {M : Type 1} → statement M
 keekaboor-write-gerber-spec =

@@ -14,8 +14,8 @@ returns c =
     let s = c .before .before .before .before .before .before .before .before .before .before .before in
     let a = s .args in
     as-text
-    ((λ i. readText (now (a .text)) (a .pitch) (toZ-ofZ (s .fits .x) i) (toZ-ofZ (s .fits .y) i))
-    ∙ task-reads (now (a .text)) (a .pitch) (a .x) (a .y) (sym (c .before .before .before .before .before .before .read-word .ensures) ∙ c .before .before .before .before .enum-told .given .1))
+    ((λ i. readText (now (a .text)) (a .version) (a .pitch) (toZ-ofZ (s .fits .x) i) (toZ-ofZ (s .fits .y) i))
+    ∙ task-reads (now (a .text)) (a .version) (a .pitch) (a .x) (a .y) (sym (c .before .before .before .before .before .before .read-word .ensures) ∙ c .before .before .before .before .enum-told .given .1))
     (c .before .before .print-read .ensures)
 
 returns-2 : tie.Need-returns-2
@@ -23,8 +23,8 @@ returns-2 c =
     let s = c .before .before .before .before .before .before .before .before .before .before .before in
     let a = s .args in
     as-text
-    ((λ i. jobText (now (a .text)) (a .pitch) (toZ-ofZ (s .fits .x) i) (toZ-ofZ (s .fits .y) i))
-    ∙ task-writes (now (a .text)) (a .pitch) (a .x) (a .y) (sym (c .before .before .before .before .before .before .read-word .ensures) ∙ c .before .before .before .before .enum-told2 .given .1))
+    ((λ i. jobText (now (a .text)) (a .version) (a .pitch) (toZ-ofZ (s .fits .x) i) (toZ-ofZ (s .fits .y) i))
+    ∙ task-writes (now (a .text)) (a .version) (a .pitch) (a .x) (a .y) (sym (c .before .before .before .before .before .before .read-word .ensures) ∙ c .before .before .before .before .enum-told2 .given .1))
     (c .before .before .print-job .ensures)
 
 pub perform-spec : {M : Type 1} → statement M

@@ -17,17 +17,17 @@ returns : tie.Need-returns
 returns c =
     let r = c .before .before .before .before .before .before .before .before .keekaboor-read-job in
     let a = c .before .before .before .before .before .before .before .before .before .before .before .before .args in
-    as-text (unread (now (a .text)) (a .pitch) (a .x) (a .y) (replicate rasterRoom 0) (r .last .1 .0) (r .result) refl (r .ensures) (c .before .before .before .before .before .if1 .taken)) (c .before .before .print-refused .ensures)
+    as-text (unread (now (a .text)) (a .version) (a .pitch) (a .x) (a .y) (replicate rasterRoom 0) (r .last .1 .0) (r .result) refl (r .ensures) (c .before .before .before .before .before .if1 .taken)) (c .before .before .print-refused .ensures)
 
 -- where the reader answered 0
 read : (c : tie.Else1) →
     let r = c .before .before .before .keekaboor-read-job in
     let a = c .before .before .before .before .before .before .before .args in
-    Ready (now (a .text)) (a .pitch) (a .x) (a .y) (r .result) (r .last .1 .0)
+    Ready (now (a .text)) (a .version) (a .pitch) (a .x) (a .y) (r .result) (r .last .1 .0)
 read c =
     let r = c .before .before .before .keekaboor-read-job in
     let a = c .before .before .before .before .before .before .before .args in
-    ready (now (a .text)) (a .pitch) (a .x) (a .y) (replicate rasterRoom 0) (r .last .1 .0) (r .result) refl (r .ensures) (c .if1 .left)
+    ready (now (a .text)) (a .version) (a .pitch) (a .x) (a .y) (replicate rasterRoom 0) (r .last .1 .0) (r .result) refl (r .ensures) (c .if1 .left)
 
 mul-size : tie.Need-mul-size
 mul-size c = omega (arith, read (c .before) .small)
@@ -46,7 +46,7 @@ returns-2 c =
     let a = s .args in
     let r = c .before .before .before .before .before .before .before .before .before .keekaboor-read-job in
     as-text
-    ((λ i. fileText (r .result .width) (r .result .height) (r .result .allowance) (take (r .result .width * r .result .height) (r .last .1 .0)) (a .pitch) (toZ-ofZ (s .fits .x) i) (toZ-ofZ (s .fits .y) i)) ∙ read (c .before .before .before .before .before .before) .same)
+    ((λ i. fileText (r .result .width) (r .result .height) (r .result .allowance) (take (r .result .width * r .result .height) (r .last .1 .0)) (a .version) (a .pitch) (toZ-ofZ (s .fits .x) i) (toZ-ofZ (s .fits .y) i)) ∙ read (c .before .before .before .before .before .before) .same)
     (c .before .before .print-file .ensures)
 
 pub print-job-spec : {M : Type 1} → statement M

@@ -17,35 +17,35 @@ use Rattle.gerberfile.proofs.print.print_file.Tie as tie
 abbrev given : tie.After-keekaboor-write-gerber → Given
 given k =
     let r = k .keekaboor-write-gerber in
-    record { outcome = r .result; flashesAfter = r .last .1 .1 .1 .1 .0; marksAfter = r .last .1 .1 .1 .1 .1 .0; fileAfter = r .last .1 .1 .1 .1 .1 .1 .1 .1 .1 .0 }
+    record { outcome = r .result; flashesAfter = r .last .1 .1 .1 .1 .0; marksAfter = r .last .1 .1 .1 .1 .1 .0; fileAfter = r .last .1 .1 .1 .1 .1 .1 .1 .1 .1 .1 .0 }
 
 gives : (k : tie.After-keekaboor-write-gerber) → let a = k .before .before .before .before .before .before .args in
-    given k ≡ writeGives (a .width) (a .height) (a .allowance) (now (a .raster)) (a .pitch) (a .x) (a .y) (replicate flashRoom 0) (replicate markRoom 0) (replicate fileRoom 0)
+    given k ≡ writeGives (a .width) (a .height) (a .allowance) (now (a .raster)) (a .version) (a .pitch) (a .x) (a .y) (replicate flashRoom 0) (replicate markRoom 0) (replicate fileRoom 0)
 gives k =
     let s = k .before .before .before .before .before .before in
     let a = s .args in
     k .keekaboor-write-gerber .ensures
-    ∙ (λ i. writeGives (a .width) (a .height) (a .allowance) (now (a .raster)) (a .pitch) (toZ-ofZ (s .fits .x) i) (toZ-ofZ (s .fits .y) i) (replicate flashRoom 0) (replicate markRoom 0) (replicate fileRoom 0))
+    ∙ (λ i. writeGives (a .width) (a .height) (a .allowance) (now (a .raster)) (a .version) (a .pitch) (toZ-ofZ (s .fits .x) i) (toZ-ofZ (s .fits .y) i) (replicate flashRoom 0) (replicate markRoom 0) (replicate fileRoom 0))
 
 print-refused-requires : tie.Need-print-refused-requires
 print-refused-requires c κs =
     let k = c .before .before .before .before .before .before .before in
     let s = k .before .before .before .before .before .before in
     let a = s .args in
-    let few = few-marks (a .width) (a .height) (a .allowance) (now (a .raster)) (a .pitch) (a .x) (a .y) (gives k) in
+    let few = few-marks (a .width) (a .height) (a .allowance) (now (a .raster)) (a .version) (a .pitch) (a .x) (a .y) (gives k) in
     (few, omega arith, s .pre)
 
 returns : tie.Need-returns
 returns c =
     let k = c .before .before .before .before .before .before .before .before .before .before in
     let a = k .before .before .before .before .before .before .args in
-    as-text (refused-text (a .width) (a .height) (a .allowance) (now (a .raster)) (a .pitch) (a .x) (a .y) (gives k) (c .before .before .before .before .before .if1 .taken)) (c .before .before .print-refused .ensures)
+    as-text (refused-text (a .width) (a .height) (a .allowance) (now (a .raster)) (a .version) (a .pitch) (a .x) (a .y) (gives k) (c .before .before .before .before .before .if1 .taken)) (c .before .before .print-refused .ensures)
 
 -- the file fits its room
 short : (k : tie.After-keekaboor-write-gerber) → k .keekaboor-write-gerber .result .length ≤ fileRoom
 short k =
     let a = k .before .before .before .before .before .before .args in
-    short-file (a .width) (a .height) (a .allowance) (now (a .raster)) (a .pitch) (a .x) (a .y) (gives k)
+    short-file (a .width) (a .height) (a .allowance) (now (a .raster)) (a .version) (a .pitch) (a .x) (a .y) (gives k)
 
 array-share-prefix-file-room : tie.Need-array-share-prefix-file-room
 array-share-prefix-file-room c = omega (arith, short (c .before .before .before .before .before .before))
@@ -65,7 +65,7 @@ returns-2 : tie.Need-returns-2
 returns-2 c =
     let k = c .before .before .before .before .before .before .before .before .before .before in
     let a = k .before .before .before .before .before .before .args in
-    as-text (file-text (a .width) (a .height) (a .allowance) (now (a .raster)) (a .pitch) (a .x) (a .y) (gives k) (c .before .before .before .before .before .if1 .left)) (c .before .before .put-bytes .ensures)
+    as-text (file-text (a .width) (a .height) (a .allowance) (now (a .raster)) (a .version) (a .pitch) (a .x) (a .y) (gives k) (c .before .before .before .before .before .if1 .left)) (c .before .before .put-bytes .ensures)
 
 pub print-file-spec : {M : Type 1} → statement M
 print-file-spec =

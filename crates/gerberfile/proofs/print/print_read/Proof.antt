@@ -14,27 +14,27 @@ use Rattle.gerberfile.proofs.print.print_read.Tie as tie
 
 -- what the call gave
 abbrev given : tie.After-keekaboor-read-gerber → Given
-given k = record { outcome = k .keekaboor-read-gerber .result; flashesAfter = k .keekaboor-read-gerber .last .1 .1 .1 .1 .0 }
+given k = record { outcome = k .keekaboor-read-gerber .result; flashesAfter = k .keekaboor-read-gerber .last .1 .1 .1 .1 .1 .0 }
 
-gives : (k : tie.After-keekaboor-read-gerber) → let a = k .before .before .before .before .args in given k ≡ readGives (a .pitch) (a .x) (a .y) (now (a .text)) (replicate flashRoom 0)
+gives : (k : tie.After-keekaboor-read-gerber) → let a = k .before .before .before .before .args in given k ≡ readGives (a .version) (a .pitch) (a .x) (a .y) (now (a .text)) (replicate flashRoom 0)
 gives k =
     let s = k .before .before .before .before in
     let a = s .args in
-    k .keekaboor-read-gerber .ensures ∙ (λ i. readGives (a .pitch) (toZ-ofZ (s .fits .x) i) (toZ-ofZ (s .fits .y) i) (now (a .text)) (replicate flashRoom 0))
+    k .keekaboor-read-gerber .ensures ∙ (λ i. readGives (a .version) (a .pitch) (toZ-ofZ (s .fits .x) i) (toZ-ofZ (s .fits .y) i) (now (a .text)) (replicate flashRoom 0))
 
 print-flashes-requires : tie.Need-print-flashes-requires
 print-flashes-requires c κs =
     let k = c .before .before .before in
     let s = k .before .before .before .before in
     let a = s .args in
-    let few = few-flashes (now (a .text)) (a .pitch) (a .x) (a .y) (gives k) (omega arith) in
+    let few = few-flashes (now (a .text)) (a .version) (a .pitch) (a .x) (a .y) (gives k) (omega arith) in
     (few, omega arith, s .pre)
 
 returns : tie.Need-returns
 returns c =
     let k = c .before .before .before .before .before .before in
     let a = k .before .before .before .before .args in
-    as-text (read-text (now (a .text)) (a .pitch) (a .x) (a .y) (gives k)) (c .before .before .print-flashes .ensures)
+    as-text (read-text (now (a .text)) (a .version) (a .pitch) (a .x) (a .y) (gives k)) (c .before .before .print-flashes .ensures)
 
 pub print-read-spec : {M : Type 1} → statement M
 print-read-spec =

@@ -9,10 +9,12 @@ import sys
 
 NUMBERS = re.compile(r"(?<![\w.^])(64|65|128|256|4225|4096|4613|4_?096|4_?613)(?![\w.])")
 WIDTH = re.compile(r"2 \^ (8|16|32|64)\b")
-# where the numbers belong: the limits themselves, the theorem that says the longest text in numbers, and worked examples
+# where the numbers belong: the limits themselves, the bits of a machine word, the theorem that says the longest text in numbers, and worked examples
 HOME = {
     "grid/src/limits.rt",
     "grid/specs/Limits.antt",
+    "words/src/lib.rt",
+    "words/specs/Words.antt",
     "job/proofs/Lengths.antt",
 }
 EXAMPLES = {

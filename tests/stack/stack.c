@@ -1,6 +1,7 @@
 /*
- * How much stack the covers take, by either search: the stack below this program's own frames is painted, a cover is
- * called, and what is no longer paint was used. Prints the bytes, on the worst of a few areas of 64 columns.
+ * How much stack the covers take, by the engine and by the plain search: the stack below this program's own frames is
+ * painted, a cover is called, and what is no longer paint was used. Prints both numbers of bytes, on the worst of a few areas
+ * of 64 columns.
  */
 #include <keekaboor.h>
 
@@ -47,15 +48,15 @@ int main(void) {
                                                size_t) = {keekaboor_cover, keekaboor_cover_plain};
     volatile uint8_t here = 0;
     uintptr_t top = (uintptr_t)&here;
-    size_t most = 0;
+    size_t most[] = {0, 0};
     for (size_t i = 0; i < sizeof draw / sizeof *draw; i++) {
         for (size_t j = 0; j < sizeof covers / sizeof *covers; j++) {
             draw[i]();
             paint(top);
             covers[j](SIDE, SIDE, SIDE, raster, sizeof raster, flashes, sizeof flashes, marks, sizeof marks);
             size_t now = used(top);
-            most = now > most ? now : most;
+            most[j] = now > most[j] ? now : most[j];
         }
     }
-    printf("%zu\n", most);
+    printf("%zu %zu\n", most[0], most[1]);
 }

@@ -1,6 +1,6 @@
 -- A room filled from its front, one byte more at a time, or once more by another rule; and it is the only such room.
 -- By cases on the byte's place. The loops over a row's columns use it.
-use mathlib.Core.Path.{_≡_, sym, ap, subst, _∙_}
+use mathlib.Core.Path.{_≡_, sym, ap, _∙_}
 use mathlib.Core.Bool.{cond}
 use mathlib.Core.List.{List}
 use mathlib.Core.Logic.{by-cases}
@@ -8,11 +8,11 @@ use Prim.Native.Nat.{ℕ, _+_, _≤_, _<_}
 use native.Mathlib.Decide.{decLt, ℕ-discrete}
 use native.Mathlib.Omega.{arith}
 use lib.Dec.{ltb}
-use lib.ListN.{length, getD, set, length-set}
+use lib.ListN.{length, getD, set, length-set, replicate, getD-replicate}
 use lib.Seq.{getD-set-same, getD-set-other, ext-getD}
 use borrow.Author.Tests.{lt-ltb, le-ltb}
 use Rattle.grid.specs.Squares.{Area}
-use Rattle.columns.specs.Columns.{Filled, bottomAt, endAt, Reached}
+use Rattle.columns.specs.Columns.{Bare, Filled, bottomAt, endAt, Reached}
 
 module _ {w : ℕ} {rule : ℕ → ℕ} {before after : List ℕ} (F : Filled w rule before after) where
   pub filled-in : (c : ℕ) → c < w → getD after c 0 ≡ rule c
@@ -56,9 +56,9 @@ filled-as w rule other {before} {after} h F = filled-by w other before after (λ
 pub filled-one : (w : ℕ) (rule : ℕ → ℕ) {before x y : List ℕ} → Filled w rule before x → Filled w rule before y → x ≡ y
 filled-one w rule {before} {x} {y} F G = ext-getD 0 x y (F .as-long ∙ sym (G .as-long)) (λ i l. F .each i ∙ sym (G .each i))
 
--- the number of bytes, told otherwise
-pub filled-to : {w v : ℕ} {rule : ℕ → ℕ} {before after : List ℕ} → w ≡ v → Filled w rule before after → Filled v rule before after
-filled-to {w} {v} {rule} {before} {after} e = subst (λ z. Filled z rule before after) e
+-- a room of zeros is bare
+pub zeros-bare : (n w : ℕ) → w ≤ n → Bare w (replicate n 0)
+zeros-bare n w l c u = getD-replicate {A = ℕ} n c 0 0 (omega arith)
 
 -- bottoms and ends filled in are the columns'
 pub filled-reached : (a : Area) (w h : ℕ) {before before′ bottoms ends : List ℕ} → w ≤ length before → w ≤ length before′

@@ -16,8 +16,8 @@ use borrow.Author.Tests.{lt-ltb, le-ltb}
 use Rattle.lists.proofs.Truth.{bcase}
 use Rattle.grid.specs.Limits.{side}
 use Rattle.grid.specs.Raster.{areaOf, byteAt}
-use Rattle.columns.specs.Columns.{Filled}
-use Rattle.columns.specs.Code.{fits, bottomAfter, endAfter, RowTaken, Bare, endTo, bottomTo, RowsTaken}
+use Rattle.columns.specs.Columns.{Bare, Filled}
+use Rattle.columns.specs.Code.{fits, bottomAfter, endAfter, RowTaken, endTo, bottomTo, RowsTaken}
 use Rattle.columns.proofs.Filling.{filled-in, filled-none, filled-next, filled-as, filled-again, filled-out}
 
 module _ (y : ℕ) (row bottoms ends : List ℕ) where

@@ -10,10 +10,6 @@ use Rattle.grid.specs.Squares.{Area}
 use Rattle.grid.specs.Raster.{areaOf, byteAt}
 use Rattle.columns.specs.Columns.{Filled}
 
--- nothing was seen yet in the first w columns
-abbrev pub Bare : ℕ → List ℕ → Type 0
-Bare w numbers = (c : ℕ) → c < w → getD numbers c 0 ≡ 0
-
 -- a byte of row y that is 0, or is 1 where no copper lies below or the column's copper reaches up to this row
 abbrev pub fits : ℕ → ℕ → ℕ → Bool
 fits y byte end = eqb byte 0 || eqb byte 1 && (eqb end 0 || eqb end y)

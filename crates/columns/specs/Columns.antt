@@ -25,6 +25,10 @@ past (some y) = suc y
 abbrev pub endAt : Area → ℕ → ℕ → ℕ
 endAt a h c = past (topOf a h c)
 
+-- nothing was seen yet in the first w columns
+abbrev pub Bare : ℕ → List ℕ → Type 0
+Bare w numbers = (c : ℕ) → c < w → getD numbers c 0 ≡ 0
+
 -- the first w bytes by a rule, every other as it was
 pub record Filled (w : ℕ) (rule : ℕ → ℕ) (before after : List ℕ) : Type 0 where
   pub each : (c : ℕ) → getD after c 0 ≡ cond (ltb c w) (rule c) (getD before c 0)

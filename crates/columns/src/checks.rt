@@ -7,8 +7,8 @@ ghost use lib.ListN.{length};
 ghost use Rattle.grid.specs.Limits.{side};
 ghost use Rattle.grid.specs.Answers.{firstRefusal};
 ghost use Rattle.grid.specs.Code.{Sized, areaIn};
-ghost use Rattle.columns.specs.Columns.{Filled, bottomAt, endAt, rasterChecks};
-ghost use Rattle.columns.specs.Code.{fits, bottomAfter, endAfter, RowTaken, Bare, RowsTaken};
+ghost use Rattle.columns.specs.Columns.{Bare, Filled, bottomAt, endAt, rasterChecks};
+ghost use Rattle.columns.specs.Code.{fits, bottomAfter, endAfter, RowTaken, RowsTaken};
 use grid::answers;
 use grid::answers::Answer;
 use grid::raster;
@@ -71,16 +71,6 @@ fn take_row(y: u8, row: &[u8], bottoms: &mut [u8], ends: &mut [u8]) -> u8
     misfits
 }
 
-// Before the first row: no copper was seen in any column.
-fn clear(width: usize, numbers: &mut [u8])
-    requires { ⌜ width ≤ length (now numbers) ⌝ }
-    ensures { λ _. ⌜ Filled width (λ c. 0) (now (numbers .entry)) (now (numbers .exit)) ⌝ }
-{
-    for c in 0..width {
-        numbers[c] = 0;
-    }
-}
-
 // All rows, from the lowest up; answers how many bytes do not fit.
 fn take_rows(size: Size, raster: &[u8], bottoms: &mut [u8], ends: &mut [u8]) -> usize
     requires { ⌜ Sized size (now raster) ⌝ }
@@ -109,16 +99,15 @@ fn refusal(size: Size, raster: &[u8]) -> Answer
         .found(raster::broken(size, raster), answers::BROKEN_COLUMN)
 }
 
-// The checks 7 and 8, and each column's bottom and end, whatever the checks say.
+// The checks 7 and 8, and each column's bottom and end, whatever the checks say; both rooms have zeros before.
 pub fn columns_checked(size: Size, raster: &[u8], bottoms: &mut [u8], ends: &mut [u8]) -> Answer
     requires { ⌜ Sized size (now raster) ⌝ }
     requires { ⌜ (size .width ≤ length (now bottoms)) × (size .width ≤ length (now ends)) ⌝ }
+    requires { ⌜ Bare (size .width) (now bottoms) × Bare (size .width) (now ends) ⌝ }
     ensures { λ r. ⌜ r ≡ firstRefusal (rasterChecks (size .width) (size .height) (now (raster .entry))) ⌝ }
     ensures { λ r. ⌜ Filled (size .width) (bottomAt (areaIn size (now (raster .entry))) (size .height)) (now (bottoms .entry)) (now (bottoms .exit)) ⌝ }
     ensures { λ r. ⌜ Filled (size .width) (endAt (areaIn size (now (raster .entry))) (size .height)) (now (ends .entry)) (now (ends .exit)) ⌝ }
 {
-    clear(size.width, bottoms);
-    clear(size.width, ends);
     if take_rows(size, raster, bottoms, ends) == 0 {
         return Answer::done();
     }

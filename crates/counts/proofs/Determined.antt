@@ -8,30 +8,24 @@ use Rattle.counts.proofs.final_marks
 use Rattle.counts.proofs.marks.final_marks_counted
 use Rattle.counts.proofs.plain.final_marks_plain
 use Rattle.counts.proofs.spans.interval_in
-use Rattle.counts.proofs.spans.list_set
 
 pub interval-in-determined : Determined interval_in.Kinds.ps interval_in.Kinds.r interval_in.Reads.Pre interval_in.Reads.Post
 interval-in-determined κs a pre x y v w p q = (ap intervalOf (p ∙ sym q), refl)
 
-pub list-set-determined : Determined list_set.Kinds.ps list_set.Kinds.r list_set.Reads.Pre list_set.Reads.Post
-list-set-determined κs a pre x y v w p q =
-    let m = p .noted ∙ sym (q .noted) in
-    (p .count ∙ sym (q .count), λ i. (tt, (tt, (m i, tt))))
-
 pub final-marks-counted-determined : Determined final_marks_counted.Kinds.ps final_marks_counted.Kinds.r final_marks_counted.Reads.Pre final_marks_counted.Reads.Post
 final-marks-counted-determined κs a pre x y v w p q =
-    let t = p .0 ∙ sym (q .0) in
-    let m = p .1 ∙ sym (q .1) in
-    (refl, λ i. (t i, (tt, (m i, tt))))
+    let t = p .1 .0 ∙ sym (q .1 .0) in
+    let m = p .1 .1 ∙ sym (q .1 .1) in
+    (p .0 ∙ sym (q .0), λ i. (t i, (tt, (m i, tt))))
 
 pub final-marks-plain-determined : Determined final_marks_plain.Kinds.ps final_marks_plain.Kinds.r final_marks_plain.Reads.Pre final_marks_plain.Reads.Post
 final-marks-plain-determined κs a pre x y v w p q =
-    let t = p .0 ∙ sym (q .0) in
-    let m = p .1 ∙ sym (q .1) in
-    (refl, λ i. (t i, (tt, (m i, tt))))
+    let t = p .1 .0 ∙ sym (q .1 .0) in
+    let m = p .1 .1 ∙ sym (q .1 .1) in
+    (p .0 ∙ sym (q .0), λ i. (t i, (tt, (m i, tt))))
 
 pub final-marks-determined : Determined final_marks.Kinds.ps final_marks.Kinds.r final_marks.Reads.Pre final_marks.Reads.Post
 final-marks-determined κs a pre x y v w p q =
-    let t = p .0 ∙ sym (q .0) in
-    let m = p .1 ∙ sym (q .1) in
-    (refl, λ i. (t i, (tt, (m i, (tt, tt)))))
+    let t = p .1 .0 ∙ sym (q .1 .0) in
+    let m = p .1 .1 ∙ sym (q .1 .1) in
+    (p .0 ∙ sym (q .0), λ i. (t i, (tt, (m i, (tt, tt)))))

@@ -1,5 +1,8 @@
 pub mod SpanLaws
 pub mod TallyLaws
+pub mod HeldLaws
+pub mod RowLaws
+pub mod StrikeLaws
 pub mod Turns
 pub mod NotedLaws
 pub mod FoundLaws

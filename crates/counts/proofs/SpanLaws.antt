@@ -1,26 +1,22 @@
 -- Lists in a room: none, one more in front, one more behind, and what a moved record leaves. One step of a pass that strikes a column.
 -- By the list of numbers that are left, whose head is the next; `next_struck` and what goes over a list use it.
 use mathlib.Core.Path.{_≡_, refl, sym, ap, ap₂, subst, _∙_}
-use mathlib.Core.Bool.{true, false, cond, not}
+use mathlib.Core.Bool.{true, false, not}
 use mathlib.Core.List.{List, [], _∷_, _++_, map, append-assoc, append-nil}
-use mathlib.Core.Option.{none, some}
 use Prim.Native.Nat.{ℕ, suc, _+_, _-_, _*_, _≤_, _<_}
-use native.Mathlib.Numerals.{add-one}
 use native.Mathlib.Omega.{arith}
 use lib.ListN.{length, set, length-map, length-set}
 use lib.Seq.{getD-set-same, getD-set-other}
-use Rattle.lists.specs.Lists.{keep, first, from, upTo}
+use Rattle.lists.specs.Lists.{keep, from, upTo}
 use Rattle.lists.proofs.Maps.{map-same}
 use Rattle.lists.proofs.Ranges.{from-in, from-append, length-from, map-append}
-use Rattle.lists.proofs.Truth.{and-left}
-use Rattle.method.specs.Intervals.{Interval as Span, span, holds, member}
+use Rattle.method.specs.Intervals.{Interval as Span, span, holds}
 use Rattle.method.specs.Strike.{strike}
-use Rattle.method.proofs.Listed.{member-keep}
 use Rattle.grid.specs.Limits.{bracketRecord}
 use Rattle.grid.specs.Rooms.{written}
 use Rattle.grid.proofs.Writing.{written-next, written-set}
 use Rattle.intervals.specs.Finished.{bracketBytes}
-use Rattle.counts.specs.Spans.{spanIn, spansIn, Moved, Passed, Short}
+use Rattle.counts.specs.Spans.{spanIn, spansIn, Moved, Passed}
 use Rattle.counts.specs.declared.marks.Spot.{Spot}
 
 module _ (room : List ℕ) where
@@ -42,6 +38,16 @@ module _ (room : List ℕ) where
       let f : n - 0 ≡ n = omega arith in
       let g : 0 + n ≡ n = omega arith in
       rw (e, f) (ap (map (spanIn room)) (from-append 0 n 1) ∙ map-append (spanIn room) (upTo n) (from (0 + n) 1) ∙ ap (λ z. map (spanIn room) (upTo n) ++ (spanIn room z ∷ [])) g)
+
+  pub spans-split : (k n : ℕ) → k ≤ n → spansIn room 0 n ≡ spansIn room 0 k ++ spansIn room k n
+  unfolding spansIn
+  spans-split k n h =
+      let e : n - 0 ≡ (k - 0) + (n - k) = omega arith in
+      let f : 0 + (k - 0) ≡ k = omega arith in
+      ap (λ m. map (spanIn room) (from 0 m)) e
+      ∙ ap (map (spanIn room)) (from-append 0 (k - 0) (n - k))
+      ∙ map-append (spanIn room) (from 0 (k - 0)) (from (0 + (k - 0)) (n - k))
+      ∙ ap (λ m. map (spanIn room) (from 0 (k - 0)) ++ map (spanIn room) (from m (n - k))) f
 
   pub spans-length : (n : ℕ) → length (spansIn room 0 n) ≡ n
   unfolding spansIn
@@ -156,22 +162,6 @@ over-all {c} {n} {room = room} P = ap (λ (z : List Span). z ++ strike c (spansI
 
 pub none-struck : {c n j : ℕ} {room room₁ : List ℕ} {from : Spot} → Passed c n room from room₁ (record { read = n; kept = j }) (λ is. is) → keep (holds c) (spansIn room (from .read) n) ≡ []
 none-struck {c} {n} {room₁ = room₁} P = P .struck ∙ ap (keep (holds c)) (spans-none room₁ n n (omega arith))
-
--- a search for the first that holds a column
-module _ (c n k : ℕ) (room : List ℕ) where
-  module _ (i : Span) (left : k < n) (here : i ≡ spanIn room k) where
-    pub search-hit : holds c i ≡ true → first (holds c) (spansIn room k n) ≡ some i
-    search-hit t = ap (first (holds c)) (spans-next room k n left ∙ ap (λ z. z ∷ spansIn room (k + 1) n) (sym here)) ∙ rw t
-
-    pub search-miss : holds c i ≡ false → first (holds c) (spansIn room k n) ≡ first (holds c) (spansIn room (k + 1) n)
-    search-miss t = ap (first (holds c)) (spans-next room k n left ∙ ap (λ z. z ∷ spansIn room (k + 1) n) (sym here)) ∙ rw t
-
-  pub search-over : n ≤ k → first (holds c) (spansIn room k n) ≡ none
-  search-over h = ap (first (holds c)) (spans-none room k n h)
-
--- what is struck of a list is of the list
-pub short-kept : (c n : ℕ) (s : List Span) → Short s n → Short (keep (holds c) s) n
-short-kept c n s S i m = S i (and-left (member i s) (holds c i) (sym (member-keep i (holds c) s) ∙ m))
 
 -- a record written anew, and the others
 module _ (room : List ℕ) (c : ℕ) (i : Span) (fits : c * bracketRecord + bracketRecord ≤ length room) where

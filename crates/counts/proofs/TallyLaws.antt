@@ -1,21 +1,21 @@
--- Counts that change by several intervals, one after the other, and by one interval column by column.
--- Each count by cases on the way it goes; `tally`, `tally_all` and `strike` use it.
+-- Counts by line that change by several intervals, one after the other. Each count by cases on the way it goes; `enter`, `leave` and the loops around them use it.
 use mathlib.Core.Path.{_≡_, refl, sym, ap, subst, subst⁻¹, _∙_}
-use mathlib.Core.Bool.{Bool, true, false, and-false, or-true}
-use mathlib.Core.List.{List, [], _∷_}
+use mathlib.Core.Bool.{Bool, true, false, cond, _||_, or-true, false≢true}
+use mathlib.Core.List.{List, [], _∷_, _++_}
 use mathlib.Core.Logic.{by-cases}
-use Prim.Native.Nat.{ℕ, _+_, _^_, _≤_, _<_, max}
+use Prim.Native.Nat.{ℕ, _+_, _-_, _<_, min}
 use native.Mathlib.Omega.{arith}
-use native.Mathlib.Decide.{decLe, decLt, ℕ-discrete}
-use lib.Dec.{leb}
+use native.Mathlib.Decide.{ℕ-discrete}
+use lib.Dec.{eqb}
 use lib.ListN.{length, getD, set, length-set}
 use lib.Seq.{getD-set-same, getD-set-other}
-use borrow.Author.Tests.{lt-ltb, le-ltb, le-leb, lt-leb}
-use Rattle.lists.specs.Lists.{count}
-use Rattle.method.specs.Intervals.{Interval as Span, span, holds, same, member}
-use Rattle.method.proofs.Lines.{path-same}
-use Rattle.counts.specs.Spans.{Short}
-use Rattle.counts.specs.Tally.{Tallied, Fits, Counted, AllFit}
+use borrow.Author.Tests.{eq-eqb, ne-eqb}
+use Rattle.lists.proofs.Counting.{count-append}
+use Rattle.lists.proofs.Members.{any-append}
+use Rattle.method.specs.Intervals.{Interval as Span, same, member}
+use Rattle.lists.proofs.Truth.{bcase}
+use Rattle.method.proofs.Lines.{path-same, same-path}
+use Rattle.counts.specs.Tally.{Tallied, Fits, Counted, AllFit, beginning, ending, Changed, CanChange, Since}
 
 -- one count
 module _ (more : Bool) where
@@ -38,7 +38,7 @@ fits-then false h j h₁ k p q = omega arith
 pub tallied-as : (more : Bool) (h j k h₁ : ℕ) → j ≡ k → Tallied more h j h₁ → Tallied more h k h₁
 tallied-as more h j k h₁ e p = rw e at p
 
--- every column's
+-- every line's
 module _ (more : Bool) (held : List ℕ) where
   pub counted-none : (f : ℕ → ℕ) → ((x : ℕ) → f x ≡ 0) → Counted more held f held
   counted-none f e = record { as-long = refl; each = λ x h. tallied-as more (getD held x 0) 0 (f x) (getD held x 0) (sym (e x)) (tallied-none more (getD held x 0)) }
@@ -66,95 +66,141 @@ module _ (more : Bool) (held : List ℕ) where
   pub all-fit-as : (f g : ℕ → ℕ) → ((x : ℕ) → f x ≡ g x) → AllFit more held f → AllFit more held g
   all-fit-as f g e F x h = subst (Fits more (getD held x 0)) (e x) (F x h)
 
--- one interval, column by column: those before c have changed
-module _ (l c x : ℕ) where
-  here-none : x ≡ c → count (holds x) (span l c ∷ []) ≡ 0
-  here-none e = rw (le-ltb x c (omega arith), and-false (leb l x))
+-- one count changed by one
+module _ (more : Bool) (held : List ℕ) (l : ℕ) (f : ℕ → ℕ) (one : (x : ℕ) → f x ≡ cond (eqb l x) 1 0) where
+  here : f l ≡ 1
+  here = one l ∙ rw (eq-eqb l l refl)
 
-  here-one : l ≤ c → x ≡ c → count (holds x) (span l (c + 1) ∷ []) ≡ 1
-  here-one h e = rw (lt-ltb x (c + 1) (omega arith), le-leb l x (omega arith))
+  pub one-fits : l < length held → AllFit more held f → Fits more (getD held l 0) 1
+  one-fits h F = subst (Fits more (getD held l 0)) here (F l h)
 
-  other-same : (x ≡ c → ⊥) → count (holds x) (span l c ∷ []) ≡ count (holds x) (span l (c + 1) ∷ [])
-  other-same d =
-      by-cases (decLt x c)
-      (λ z. rw (lt-ltb x c z, lt-ltb x (c + 1) (omega arith)))
-      (λ z. rw (le-ltb x c (omega arith), le-ltb x (c + 1) (omega arith)))
-
-pub none-yet : (l x : ℕ) → count (holds x) (span l l ∷ []) ≡ 0
-none-yet l x = by-cases (decLt x l) (λ z. rw (lt-leb l x z)) (λ z. rw (le-ltb x l (omega arith), and-false (leb l x)))
-
--- past the end, or where there is nothing to go through
-pub all-gone : (l c e : ℕ) → l ≤ c → e ≤ c → c ≤ max l e → (x : ℕ) → count (holds x) (span l c ∷ []) ≡ count (holds x) (span l e ∷ [])
-all-gone l c e h k u x =
-    by-cases (decLe e l)
-    (λ z.
-    let q : c ≡ l = omega arith in
-    ap (λ v. count (holds x) (span l v ∷ [])) q
-    ∙ none-yet l x
-    ∙ sym (by-cases (decLt x l) (λ v. rw (lt-leb l x v)) (λ v. rw (le-ltb x e (omega arith), and-false (leb l x)))))
-    (λ z. let q : c ≡ e = omega arith in ap (λ v. count (holds x) (span l v ∷ [])) q)
-
-module _ (more : Bool) (held₀ held : List ℕ) (l c : ℕ) (C : Counted more held₀ (λ x. count (holds x) (span l c ∷ [])) held) where
-  pub column-fits : (e : ℕ) → l ≤ c → c < e → e ≤ length held₀ → AllFit more held₀ (λ x. count (holds x) (span l e ∷ [])) → Fits more (getD held c 0) 1
-  column-fits e h k u F =
-      let one : count (holds c) (span l e ∷ []) ≡ 1 = rw (lt-ltb c e k, le-leb l c h) in
-      fits-then more (getD held₀ c 0) 0 (getD held c 0) 1
-      (subst (Fits more (getD held₀ c 0)) one (F c (omega arith)))
-      (tallied-as more (getD held₀ c 0) (count (holds c) (span l c ∷ [])) 0 (getD held c 0) (here-none l c c refl) (C .each c (omega arith)))
-
-  pub column-tallied : (r : ℕ) → l ≤ c → c < length held₀ → Tallied more (getD held c 0) 1 r → Counted more held₀ (λ x. count (holds x) (span l (c + 1) ∷ [])) (set held c r)
-  column-tallied r h k T =
+  pub one-counted : (r : ℕ) → l < length held → Tallied more (getD held l 0) 1 r → Counted more held f (set held l r)
+  one-counted r h T =
       record {
-        as-long = length-set held c r ∙ C .as-long;
+        as-long = length-set held l r;
         each = λ x u.
-            by-cases (ℕ-discrete x c)
+            by-cases (ℕ-discrete x l)
             (λ e.
-            subst⁻¹ (Tallied more (getD held₀ x 0) (count (holds x) (span l (c + 1) ∷ []))) (ap (λ y. getD (set held c r) y 0) e ∙ getD-set-same held c r 0 (omega (arith, C .as-long)))
-            (tallied-as more (getD held₀ x 0) 1 (count (holds x) (span l (c + 1) ∷ [])) r (sym (here-one l c x h e))
-            (tallied-then more (getD held₀ x 0) 0 (getD held x 0) 1 r
-            (tallied-as more (getD held₀ x 0) (count (holds x) (span l c ∷ [])) 0 (getD held x 0) (here-none l c x e) (C .each x u))
-            (subst (λ y. Tallied more (getD held y 0) 1 r) (sym e) T))))
+            subst⁻¹ (λ y. Tallied more (getD held y 0) (f y) (getD (set held l r) y 0)) e
+            (subst⁻¹ (Tallied more (getD held l 0) (f l)) (getD-set-same held l r 0 h) (tallied-as more (getD held l 0) 1 (f l) r (sym here) T)))
             (λ e.
-            subst⁻¹ (Tallied more (getD held₀ x 0) (count (holds x) (span l (c + 1) ∷ []))) (getD-set-other held c x r 0 e)
-            (tallied-as more (getD held₀ x 0) (count (holds x) (span l c ∷ [])) (count (holds x) (span l (c + 1) ∷ [])) (getD held x 0) (other-same l c x e) (C .each x u)));
+            subst⁻¹ (Tallied more (getD held x 0) (f x)) (getD-set-other held l x r 0 e)
+            (tallied-as more (getD held x 0) 0 (f x) (getD held x 0) (sym (one x ∙ rw (ne-eqb l x (λ q. e (sym q))))) (tallied-none more (getD held x 0))));
+      }
+
+-- one interval
+module _ (i : Span) where
+  pub one-begins : (x : ℕ) → beginning (i ∷ []) x ≡ cond (eqb (i .left) x) 1 0
+  one-begins x = omega arith
+
+  pub one-ends : (x : ℕ) → ending (i ∷ []) x ≡ cond (eqb (i .right) x) 1 0
+  one-ends x = omega arith
+
+  module _ (more : Bool) (begins ends : List ℕ) (C : CanChange more begins ends (i ∷ [])) where
+    pub one-short : (i .left < length begins) × (i .right < length ends)
+    one-short = C .short i (rw (path-same i i refl))
+
+    pub begin-fits : Fits more (getD begins (i .left) 0) 1
+    begin-fits = one-fits more begins (i .left) (beginning (i ∷ [])) one-begins (one-short .0) (C .begun)
+
+    pub end-fits : Fits more (getD ends (i .right) 0) 1
+    end-fits = one-fits more ends (i .right) (ending (i ∷ [])) one-ends (one-short .1) (C .ended)
+
+    pub one-changed : (x y : ℕ) → Tallied more (getD begins (i .left) 0) 1 x → Tallied more (getD ends (i .right) 0) 1 y
+        → Changed more begins ends (i ∷ []) (set begins (i .left) x) (set ends (i .right) y)
+    one-changed x y S T =
+        record {
+          begun = one-counted more begins (i .left) (beginning (i ∷ [])) one-begins x (one-short .0) S;
+          ended = one-counted more ends (i .right) (ending (i ∷ [])) one-ends y (one-short .1) T;
+        }
+
+-- the least line at which one of a list begins, while it is gone through
+pub record Seeking (l₀ : ℕ) (all : List Span) (l : ℕ) (rest : List Span) : Type 0 where
+  pub on : (f : ℕ) → Since l rest f → Since l₀ all f
+
+pub seeking-start : (l : ℕ) (all : List Span) → Seeking l all l all
+seeking-start l all = record { on = λ f S. S }
+
+module _ {l₀ l : ℕ} {all rest : List Span} (S : Seeking l₀ all l rest) where
+  pub seeking-over : rest ≡ [] → Since l₀ all l
+  seeking-over e = S .on l (record { given = omega arith; begun = λ j m. absurd (false≢true (sym (ap (member j) e) ∙ m)) })
+
+  pub seeking-next : (i : Span) (rest′ : List Span) → rest ≡ i ∷ rest′ → {r : ℕ} → r ≡ min l (i .left) → Seeking l₀ all r rest′
+  seeking-next i rest′ e {r} q =
+      record {
+        on = λ f L.
+            S .on f
+            (record {
+              given = omega (arith, L .given);
+              begun = λ j m.
+                  bcase (same j i)
+                  (λ t. omega (arith, L .given, ap (λ (k : Span). k .left) (same-path j i t)))
+                  (λ t. L .begun j (rw t at (sym (ap (member j) e) ∙ m)));
+            });
       }
 
 -- counts that have changed by some intervals of a list, and are to change by the rest
-pub record Going (more : Bool) (held₀ : List ℕ) (all : List Span) (held : List ℕ) (rest : List Span) : Type 0 where
-  pub as-long : length held ≡ length held₀
-  pub short : Short rest (length held₀)
-  pub fits : AllFit more held (λ x. count (holds x) rest)
-  pub on : (h : List ℕ) → Counted more held (λ x. count (holds x) rest) h → Counted more held₀ (λ x. count (holds x) all) h
+pub record Going (more : Bool) (begins₀ ends₀ : List ℕ) (all : List Span) (begins ends : List ℕ) (rest : List Span) : Type 0 where
+  pub begins-long : length begins ≡ length begins₀
+  pub ends-long : length ends ≡ length ends₀
+  pub can : CanChange more begins ends rest
+  pub on : (b e : List ℕ) → Changed more begins ends rest b e → Changed more begins₀ ends₀ all b e
 
-pub going-start : (more : Bool) (held₀ : List ℕ) (all : List Span) → Short all (length held₀) → AllFit more held₀ (λ x. count (holds x) all) → Going more held₀ all held₀ all
-going-start more held₀ all S F = record { as-long = refl; short = S; fits = F; on = λ h C. C }
+pub going-start : (more : Bool) (begins ends : List ℕ) (all : List Span) → CanChange more begins ends all → Going more begins ends all begins ends all
+going-start more begins ends all C = record { begins-long = refl; ends-long = refl; can = C; on = λ b e D. D }
 
-module _ {more : Bool} {held₀ held : List ℕ} {all rest : List Span} (G : Going more held₀ all held rest) where
-  pub going-over : rest ≡ [] → Counted more held₀ (λ x. count (holds x) all) held
-  going-over e = G .on held (counted-none more held (λ x. count (holds x) rest) (λ x. ap (count (holds x)) e))
+module _ {more : Bool} {begins₀ ends₀ begins ends : List ℕ} {all rest : List Span} (G : Going more begins₀ ends₀ all begins ends rest) where
+  pub going-over : rest ≡ [] → Changed more begins₀ ends₀ all begins ends
+  going-over e =
+      G .on begins ends
+      (record {
+        begun = counted-none more begins (beginning rest) (λ x. ap (λ s. beginning s x) e);
+        ended = counted-none more ends (ending rest) (λ x. ap (λ s. ending s x) e);
+      })
 
-  module _ (i : Span) (rest′ : List Span) (e : rest ≡ i ∷ rest′) where
-    one-then : (x : ℕ) → count (holds x) rest ≡ count (holds x) (i ∷ []) + count (holds x) rest′
-    one-then x = ap (count (holds x)) e ∙ omega arith
+  -- the next part of the list
+  module _ (part rest′ : List Span) (e : rest ≡ part ++ rest′) where
+    begin-then : (x : ℕ) → beginning rest x ≡ beginning part x + beginning rest′ x
+    begin-then x = ap (λ s. beginning s x) e ∙ count-append (λ i. eqb (i .left) x) part rest′
 
-    pub next-short : i .right ≤ length held
-    next-short = omega (arith, G .as-long, G .short i (ap (member i) e ∙ rw (path-same i i refl)))
+    end-then : (x : ℕ) → ending rest x ≡ ending part x + ending rest′ x
+    end-then x = ap (λ s. ending s x) e ∙ count-append (λ i. eqb (i .right) x) part rest′
 
-    pub next-fits : AllFit more held (λ x. count (holds x) (i ∷ []))
-    next-fits =
-        all-fit-first more held (λ x. count (holds x) (i ∷ [])) (λ x. count (holds x) rest′)
-        (all-fit-as more held (λ x. count (holds x) rest) (λ x. count (holds x) (i ∷ []) + count (holds x) rest′) one-then (G .fits))
+    begins-fit : AllFit more begins (λ x. beginning part x + beginning rest′ x)
+    begins-fit = all-fit-as more begins (beginning rest) (λ x. beginning part x + beginning rest′ x) begin-then (G .can .begun)
 
-    pub going-next : {held₁ : List ℕ} → Counted more held (λ x. count (holds x) (i ∷ [])) held₁ → Going more held₀ all held₁ rest′
-    going-next {held₁} C =
+    ends-fit : AllFit more ends (λ x. ending part x + ending rest′ x)
+    ends-fit = all-fit-as more ends (ending rest) (λ x. ending part x + ending rest′ x) end-then (G .can .ended)
+
+    either : (j : Span) → member j rest ≡ (member j part || member j rest′)
+    either j = ap (member j) e ∙ any-append (same j) part rest′
+
+    pub next-can : CanChange more begins ends part
+    next-can =
         record {
-          as-long = C .as-long ∙ G .as-long;
-          short = λ j m. G .short j (ap (member j) e ∙ rw (m, or-true (same j i)));
-          fits =
-              all-fit-then more held (λ x. count (holds x) (i ∷ [])) (λ x. count (holds x) rest′) held₁ C
-              (all-fit-as more held (λ x. count (holds x) rest) (λ x. count (holds x) (i ∷ []) + count (holds x) rest′) one-then (G .fits));
-          on = λ h D.
-              G .on h
-              (counted-as more held (λ x. count (holds x) (i ∷ []) + count (holds x) rest′) (λ x. count (holds x) rest) h (λ x. sym (one-then x))
-              (counted-then more held (λ x. count (holds x) (i ∷ [])) (λ x. count (holds x) rest′) held₁ C h D));
+          short = λ j m. G .can .short j (either j ∙ rw m);
+          begun = all-fit-first more begins (beginning part) (beginning rest′) begins-fit;
+          ended = all-fit-first more ends (ending part) (ending rest′) ends-fit;
+        }
+
+    pub going-next : {b₁ e₁ : List ℕ} → Changed more begins ends part b₁ e₁ → Going more begins₀ ends₀ all b₁ e₁ rest′
+    going-next {b₁} {e₁} C =
+        record {
+          begins-long = C .begun .as-long ∙ G .begins-long;
+          ends-long = C .ended .as-long ∙ G .ends-long;
+          can = record {
+            short = λ j m. let s = G .can .short j (either j ∙ rw (m, or-true (member j part))) in (omega (arith, C .begun .as-long), omega (arith, C .ended .as-long));
+            begun = all-fit-then more begins (beginning part) (beginning rest′) b₁ (C .begun) begins-fit;
+            ended = all-fit-then more ends (ending part) (ending rest′) e₁ (C .ended) ends-fit;
+          };
+          on = λ b′ e′ D.
+              G .on b′ e′
+              (record {
+                begun =
+                    counted-as more begins (λ x. beginning part x + beginning rest′ x) (beginning rest) b′ (λ x. sym (begin-then x))
+                    (counted-then more begins (beginning part) (beginning rest′) b₁ (C .begun) b′ (D .begun));
+                ended =
+                    counted-as more ends (λ x. ending part x + ending rest′ x) (ending rest) e′ (λ x. sym (end-then x))
+                    (counted-then more ends (ending part) (ending rest′) e₁ (C .ended) e′ (D .ended));
+              });
         }

@@ -1,16 +1,13 @@
 -- Serves the code's lists alone: intervals in a room, a record of two bytes each, and what a pass over them strikes and keeps.
 use mathlib.Core.Path.{_≡_}
-use mathlib.Core.Bool.{true}
-use mathlib.Core.List.{List, [], _∷_, _++_, map}
+use mathlib.Core.List.{List, _∷_, _++_, map}
 use Prim.Native.Nat.{ℕ, _+_, _-_, _*_, _≤_, _<_}
 use lib.ListN.{length, getD}
-use Rattle.lists.specs.Lists.{keep, gather, from}
-use Rattle.method.specs.Intervals.{Interval as Span, span, holds, member}
+use Rattle.lists.specs.Lists.{keep, from}
+use Rattle.method.specs.Intervals.{Interval as Span, span, holds}
 use Rattle.method.specs.Strike.{strike}
 use Rattle.grid.specs.Limits.{bracketRecord}
 use Rattle.grid.specs.Lines.{spanOf}
-use Rattle.grid.specs.Rooms.{written}
-use Rattle.intervals.specs.Finished.{bracketBytes}
 use Rattle.counts.specs.declared.marks.Spot.{Spot}
 use Rattle.counts.specs.declared.marks.Next.{Next}
 use Rattle.counts.specs.declared.marks.Next.the-variants.{Over, Struck}
@@ -43,16 +40,7 @@ abbrev pub Told : ℕ → ℕ → List ℕ → Spot → Next → List ℕ → Ty
 Told c n room from (Struck i spot) room′ = Passed c n room from room′ spot (λ is. spanOf i ∷ is) × (from .read < spot .read)
 Told c n room from (Over j) room′ = Passed c n room from room′ (record { read = n; kept = j }) (λ is. is)
 
--- no interval of the list ends beyond line n
-abbrev pub Short : List Span → ℕ → Type 0
-Short s n = (i : Span) → member i s ≡ true → i .right ≤ n
-
 -- n intervals in a room that was lent: the list s
 pub record Listing (s : List Span) (room : List ℕ) (n : ℕ) (room′ : List ℕ) : Type 0 where
   pub list : spansIn room′ 0 n ≡ s
   pub as-long : length room′ ≡ length room
-
--- the intervals s noted behind n others: how many there are now, and the room's bytes
-pub record Noted (s : List Span) (room : List ℕ) (n r : ℕ) (room′ : List ℕ) : Type 0 where
-  pub count : r ≡ n + length s
-  pub noted : room′ ≡ written room (n * bracketRecord) (gather bracketBytes s)

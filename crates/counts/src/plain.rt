@@ -58,7 +58,7 @@ fn note_mark(set: &mut Table, work: &mut Table, last: Line, noted: &mut [u8]) ->
         return false;
     };
     // Always found: a column that the final set holds is held by the set.
-    let Found::At(i) = least(set, last, column) else {
+    let Found::At(i) = least(set, last, Line(0), column) else {
         return false;
     };
     note_bracket(noted, column.0, i);
@@ -75,10 +75,11 @@ fn note_marks(set: &mut Table, work: &mut Table, last: Line, noted: &mut [u8])
     while note_mark(set, work, last, noted) {}
 }
 
-// The set gives way to its final set, and its marks are noted: at each marked column the interval that it was marked for.
-pub fn final_marks_plain(t: &mut Table, last: Line, noted: &mut [u8])
+// The set gives way to its final set, and its marks are noted: at each marked column the interval that it was marked for. Answers how many there are.
+pub fn final_marks_plain(t: &mut Table, last: Line, noted: &mut [u8]) -> usize
     requires { ⌜ Tabled (last .0) (now t) ⌝ }
     requires { ⌜ last .0 * bracketRecord ≤ length (now noted) ⌝ }
+    ensures { λ r. ⌜ r ≡ length (final (last .0) (setOf (last .0) (now (t .entry)))) ⌝ }
     ensures { λ _. ⌜ now (t .exit) ≡ tableOf (final (last .0) (setOf (last .0) (now (t .entry)))) ⌝ }
     ensures { λ _. ⌜ now (noted .exit) ≡ notedFor (marked (last .0) (setOf (last .0) (now (t .entry)))) (now (noted .entry)) ⌝ }
 {
@@ -87,4 +88,5 @@ pub fn final_marks_plain(t: &mut Table, last: Line, noted: &mut [u8])
     table::copy(t, &mut set);
     final_copy(&set, t, last, Search::Plain);
     note_marks(&mut set, &mut work, last, noted);
+    table::size(t, last)
 }

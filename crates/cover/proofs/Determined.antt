@@ -8,7 +8,6 @@ use Rattle.cover.specs.Cover.{Given, Gives}
 use Rattle.cover.specs.declared.entry.Outcome.{Outcome}
 use Rattle.cover.proofs.slices.last_line
 use Rattle.cover.proofs.slices.copper_along
-use Rattle.cover.proofs.slices.lowest_shown
 use Rattle.cover.proofs.slices.starting
 use Rattle.cover.proofs.flashes.write_flashes
 use Rattle.cover.proofs.marks.write_marks
@@ -24,11 +23,8 @@ last-line-determined κs a pre x y v w p q = (p ∙ sym q, refl)
 pub copper-along-determined : Determined copper_along.Kinds.ps copper_along.Kinds.r copper_along.Reads.Pre copper_along.Reads.Post
 copper-along-determined κs a pre x y v w p q = (p ∙ sym q, refl)
 
-pub lowest-shown-determined : Determined lowest_shown.Kinds.ps lowest_shown.Kinds.r lowest_shown.Reads.Pre lowest_shown.Reads.Post
-lowest-shown-determined κs a pre x y v w p q = (p ∙ sym q, refl)
-
 pub starting-determined : Determined starting.Kinds.ps starting.Kinds.r starting.Reads.Pre starting.Reads.Post
-starting-determined κs a pre x y v w p q = (refl, λ i. (tt, (tt, ((p ∙ sym q) i, tt))))
+starting-determined κs a pre x y v w p q = (refl, λ i. (tt, (tt, (tt, ((p ∙ sym q) i, tt)))))
 
 pub write-flashes-determined : Determined write_flashes.Kinds.ps write_flashes.Kinds.r write_flashes.Reads.Pre write_flashes.Reads.Post
 write-flashes-determined κs a pre x y v w p q =
@@ -40,7 +36,7 @@ write-flashes-determined κs a pre x y v w p q =
 pub write-marks-determined : Determined write_marks.Kinds.ps write_marks.Kinds.r write_marks.Reads.Pre write_marks.Reads.Post
 write-marks-determined κs a pre x y v w p q =
     let m = p .room ∙ sym (q .room) in
-    (p .counted ∙ sym (q .counted), λ i. (tt, (tt, (tt, (tt, (m i, tt))))))
+    (p .counted ∙ sym (q .counted), λ i. (tt, (tt, (tt, (tt, (tt, (m i, tt)))))))
 
 pub sizes-checked-determined : Determined sizes_checked.Kinds.ps sizes_checked.Kinds.r sizes_checked.Reads.Pre sizes_checked.Reads.Post
 sizes-checked-determined κs a pre x y v w p q = (p ∙ sym q, refl)

@@ -1,28 +1,18 @@
 -- The flash of an interval that stands has its sides the right way round and within the largest grid, so its numbers fit bytes and its area is small.
--- Its bottom lies below its end. `write_flash`, `write_flashes` and `note_mark` use it.
-use mathlib.Core.Path.{_≡_, ap}
+-- Its bottom lies below its end. `write_flash` and `write_flashes` use it.
 use mathlib.Core.List.{List, [], _∷_, List·Memᴰ·head, List·Memᴰ·tail}
 use mathlib.Core.Path.{refl}
-use Prim.Native.Nat.{ℕ, suc, _-_, _*_, _≤_, _<_}
+use Prim.Native.Nat.{ℕ, suc, _-_, _*_, _≤_}
 use native.Mathlib.Nat.{mul-le-mul}
 use native.Mathlib.Omega.{arith}
 use lib.ListN.{length}
-use Rattle.lists.proofs.Truth.{ocase}
 use Rattle.lists.proofs.Members.{In}
 use Rattle.method.specs.Intervals.{Interval}
 use Rattle.grid.specs.Limits.{side}
-use Rattle.grid.specs.Squares.{Area, Rectangle}
-use Rattle.cover.specs.Slices.{markRow}
-use Rattle.cover.proofs.Shown.{lowest-shows}
-use Rattle.cover.specs.Flashes.{rowFound, areaOfFlash, flashedArea}
+use Rattle.grid.specs.Squares.{Rectangle}
+use Rattle.cover.specs.Flashes.{areaOfFlash, flashedArea}
 use Rattle.columns.proofs.Extremes.{least-low}
 use Rattle.cover.specs.Code.{flashBetween, Standing, Drawn}
-
-pub mark-low : (a : Area) (h : ℕ) (i : Interval) → 1 ≤ h → rowFound (markRow a h i) < h
-mark-low a h i l =
-    ocase (markRow a h i)
-    (λ o. let e = ap rowFound o in omega arith)
-    (λ y o. let e = ap rowFound o in omega (arith, lowest-shows a h i o))
 
 pub stands-drawn : (bottoms ends : List ℕ) (i : Interval) → Standing bottoms ends i → Drawn (flashBetween bottoms ends i)
 stands-drawn bottoms ends i z = record {

@@ -22,7 +22,7 @@ use Rattle.cover.proofs.SliceLaws.{along-copper, copper-along}
 
 module _ (a : Area) (w h : ℕ) (grid : InGrid w h a) (unbroken : Unbroken a) (low : h ≤ side) {bottoms ends : List ℕ} (R : Reached a w h bottoms ends)
     (i : Interval) (wide : i .left < i .right) (fits : i .right ≤ w) where
-  abbrev lowest : ℕ
+  abbrev pub lowest : ℕ
   lowest = greatestIn bottoms (i .left) (i .right - i .left)
 
   abbrev past : ℕ
@@ -32,14 +32,14 @@ module _ (a : Area) (w h : ℕ) (grid : InGrid w h a) (unbroken : Unbroken a) (l
   each y t c l u = let s = along-copper a y i t c l u in row-between a h c y (grid c y s .1) s
 
   -- a row that is copper along the interval lies between, and each row between is
-  along-between : (y : ℕ) → copperAlong a y i ≡ true → (lowest ≤ y) × (y < past)
+  pub along-between : (y : ℕ) → copperAlong a y i ≡ true → (lowest ≤ y) × (y < past)
   along-between y t =
       let high = grid (i .left) y (along-copper a y i t (i .left) (omega arith) wide) .1 in (
         above-greatest bottoms (i .left) (i .right - i .left) y (λ c l u. omega (arith, R .low c (omega arith), each y t c l (omega arith))),
         below-least ends (i .left) (i .right - i .left) y (omega arith) (λ c l u. omega (arith, R .high c (omega arith), each y t c l (omega arith))),
       )
 
-  between-along : (y : ℕ) → lowest ≤ y → y < past → copperAlong a y i ≡ true
+  pub between-along : (y : ℕ) → lowest ≤ y → y < past → copperAlong a y i ≡ true
   between-along y l u =
       copper-along a y i
       (λ c m n.

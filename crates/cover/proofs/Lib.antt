@@ -2,6 +2,7 @@
 pub mod SliceLaws
 pub mod Shown
 pub mod Starting
+pub mod FewSlices
 pub mod Heights
 pub mod HeightsByColumn
 pub mod Covering
@@ -24,10 +25,13 @@ pub mod RowsHold
 -- What the code's loops rest on.
 pub mod Along
 pub mod Variants
-pub mod StartingByRow
+pub mod RowChanges
+pub mod ChangedRow
+pub mod StartingByChange
 pub mod RecordsBehind
 pub mod FlashBounds
-pub mod FlashesByCell
+pub mod FlashesByRow
+pub mod MarkRows
 pub mod NotedMarks
 pub mod ByColumn
 pub mod Refusals

@@ -38,6 +38,11 @@ pub done-as : {ps qs : List Rectangle} {f f′ : List ℕ} {d : Flashed} → ps 
 done-as {f = f} {f′ = f′} {d = d} e A = subst (λ z. FlashesDone z f d f′) e A
 
 module _ (a : Area) (w h : ℕ) (fits : w ≤ side) where
+  -- as many flashes as intervals
+  work-size : {n : ℕ} → n ≡ length (final w (starting a w h)) → n ≡ length (flashes a w h)
+  unfolding flashes
+  work-size e = e ∙ sym (length-map (final w (starting a w h)) (flash a h))
+
   -- the final set in its table
   module _ {t : List ℕ} (q : t ≡ tableOf (final w (starting a w h))) where
     pub work-tabled : Tabled w t
@@ -52,10 +57,6 @@ module _ (a : Area) (w h : ℕ) (fits : w ≤ side) where
     work-flashes : map (flash a h) (setOf w t) ≡ flashes a w h
     unfolding flashes
     work-flashes = ap (map (flash a h)) work-set
-
-    -- as many flashes as intervals
-    work-size : {n : ℕ} → n ≡ length (setOf w t) → n ≡ length (flashes a w h)
-    work-size e = e ∙ sym (length-map (setOf w t) (flash a h)) ∙ ap length work-flashes
 
     -- by bottoms and ends: each interval stands, and its rectangle is its flash
     module _ (grid : InGrid w h a) (unbroken : Unbroken a) (low : h ≤ side) {bottoms ends : List ℕ} (R : Reached a w h bottoms ends) where
@@ -77,7 +78,7 @@ module _ (a : Area) (w h : ℕ) (fits : w ≤ side) where
           let y = final-along a w h i k in
           by-column a w h grid unbroken low R i (l .0) (l .1) (y .0) (y .1))
 
-    module _ {k n : ℕ} (size : n ≡ length (setOf w t)) where
+    module _ {k n : ℕ} (size : n ≡ length (final w (starting a w h))) where
       -- more flashes than the allowance
       pub work-refused : {f m m′ : List ℕ} {r : ℕ} {o : Outcome} → k < n → o ≡ shortOf r → MarksDone (take (k + 1) (marks a w h)) m r m′
           → record { outcome = o; flashesAfter = f; marksAfter = m′ } ≡ answered a w h k f m

@@ -5,7 +5,7 @@ ghost use Prim.Native.Nat.{_*_, _≤_};
 ghost use lib.ListN.{length};
 ghost use Rattle.method.specs.Final.{final};
 ghost use Rattle.method.specs.Strike.{marked};
-ghost use Rattle.grid.specs.Limits.{allowanceLimit, bracketRecord, flashRoom, markRoom};
+ghost use Rattle.grid.specs.Limits.{side, allowanceLimit, bracketRecord, flashRoom, markRoom};
 ghost use Rattle.grid.specs.Squares.{Unbroken};
 ghost use Rattle.grid.specs.Answers.{firstRefusal};
 ghost use Rattle.grid.specs.Code.{Sized, areaIn};
@@ -14,7 +14,7 @@ ghost use Rattle.intervals.specs.Table.{tableOf};
 ghost use Rattle.cover.specs.Slices;
 ghost use Rattle.counts.specs.Marks.{notedFor};
 ghost use Rattle.cover.specs.Cover.{answered, Gives};
-ghost use Rattle.cover.specs.Code.{outcomeOf, shortOf, coveredOf, sizeChecks};
+ghost use Rattle.cover.specs.Code.{Columned, between, outcomeOf, shortOf, coveredOf, sizeChecks};
 use crate::flashes::Flashed;
 use crate::flashes::write_flashes;
 use crate::marks::write_marks;
@@ -124,15 +124,23 @@ pub fn raster_checked(size: Size, raster: &[u8]) -> Answer
     columns_checked(size, raster, &mut bottoms, &mut ends)
 }
 
-// The final set of the starting set into the table, and the starting set's marks into their notes.
-fn start_area(size: Size, raster: &[u8], t: &mut Table, noted: &mut [u8], search: Search)
-    requires { ⌜ Sized size (now raster) ⌝ }
+// The final set of the starting set into the table, and the starting set's marks into their notes: of the area between the columns' bottoms and ends; answers how many flashes there are.
+fn start_area(
+    size: Size,
+    bottoms: &[u8],
+    ends: &[u8],
+    t: &mut Table,
+    noted: &mut [u8],
+    search: Search,
+) -> usize
+    requires { ⌜ Columned (size .width) (now bottoms) (now ends) × (size .height ≤ side) ⌝ }
     requires { ⌜ (now t ≡ tableOf []) × (size .width * bracketRecord ≤ length (now noted)) ⌝ }
-    ensures { λ _. ⌜ now (t .exit) ≡ tableOf (final (size .width) (Slices.starting (areaIn size (now (raster .entry))) (size .width) (size .height))) ⌝ }
-    ensures { λ _. ⌜ now (noted .exit) ≡ notedFor (marked (size .width) (Slices.starting (areaIn size (now (raster .entry))) (size .width) (size .height))) (now (noted .entry)) ⌝ }
+    ensures { λ _. ⌜ now (t .exit) ≡ tableOf (final (size .width) (Slices.starting (between (size .width) (now (bottoms .entry)) (now (ends .entry))) (size .width) (size .height))) ⌝ }
+    ensures { λ _. ⌜ now (noted .exit) ≡ notedFor (marked (size .width) (Slices.starting (between (size .width) (now (bottoms .entry)) (now (ends .entry))) (size .width) (size .height))) (now (noted .entry)) ⌝ }
+    ensures { λ r. ⌜ r ≡ length (final (size .width) (Slices.starting (between (size .width) (now (bottoms .entry)) (now (ends .entry))) (size .width) (size .height))) ⌝ }
 {
-    starting(size, raster, t);
-    final_marks(t, last_line(size), noted, search);
+    starting(size, bottoms, ends, t);
+    final_marks(t, last_line(size), noted, search)
 }
 
 // The cover of an area that has passed every check, with its columns' bottoms and ends.
@@ -151,15 +159,16 @@ fn cover_columns(
     ensures { λ r. ⌜ record { outcome = r; flashesAfter = now («flash_room» .exit); marksAfter = now («mark_room» .exit) } ≡ answered (areaIn (job .size) (now (raster .entry))) (job .size .width) (job .size .height) (job .allowance) (now («flash_room» .entry)) (now («mark_room» .entry)) ⌝ }
 {
     let size = job.size;
+    let last = last_line(size);
     let mut work = table::empty();
     let mut noted = [0u8; NOTES];
-    start_area(size, raster, &mut work, &mut noted, search);
-    if job.allowance < table::size(&work, last_line(size)) {
-        let marks = write_marks(size, raster, &noted, job.allowance + 1, mark_room);
+    let flashes = start_area(size, bottoms, ends, &mut work, &mut noted, search);
+    if job.allowance < flashes {
+        let marks = write_marks(last, bottoms, ends, &noted, job.allowance + 1, mark_room);
         return short(marks);
     }
-    let flashed = write_flashes(last_line(size), bottoms, ends, &work, flash_room);
-    let marks = write_marks(size, raster, &noted, limits::SIDE, mark_room);
+    let flashed = write_flashes(last, bottoms, ends, &work, flash_room);
+    let marks = write_marks(last, bottoms, ends, &noted, limits::SIDE, mark_room);
     covered(heights(size.width, bottoms, ends), flashed, marks)
 }
 

@@ -8,7 +8,7 @@ ghost use Rattle.grid.specs.Lines.{row, spanOf};
 ghost use Rattle.grid.specs.Rooms.{written};
 ghost use Rattle.columns.specs.Columns.{greatestIn, leastIn};
 ghost use Rattle.intervals.specs.Table.{Tabled, setOf};
-ghost use Rattle.cover.specs.Code.{rectangleOf, flashBetween, flashesAt, Standing, AllStand, Drawn, Ready, Added, FlashesDone};
+ghost use Rattle.cover.specs.Code.{rectangleOf, flashBetween, fromLine, Standing, AllStand, Drawn, Ready, Added, FlashesDone};
 ghost use Rattle.cover.specs.Flashes.{areaOfFlash};
 ghost use Rattle.cover.specs.Records.{flashBytes};
 use columns::reach::greatest;
@@ -113,24 +113,27 @@ fn write_flash(bottoms: &[u8], ends: &[u8], i: Interval, room: &mut [u8], done: 
     }
 }
 
-// Cell k of the table.
-fn write_cell(
+// Those of the intervals that begin at one line, by right line.
+fn write_row(
     last: Line,
     bottoms: &[u8],
     ends: &[u8],
     t: &Table,
-    k: usize,
+    left: Line,
     room: &mut [u8],
     done: Flashed,
 ) -> Flashed
     requires { ⌜ Tabled (last .0) (now t) × AllStand (now bottoms) (now ends) (setOf (last .0) (now t)) ⌝ }
-    requires { ⌜ Ready (flashesAt (flashBetween (now bottoms) (now ends)) (setOf (last .0) (now t)) k) done (now room) ⌝ }
-    ensures { λ r. ⌜ Added (flashesAt (flashBetween (now (bottoms .entry)) (now (ends .entry))) (setOf (last .0) (now (t .entry))) k) (now (room .entry)) done r (now (room .exit)) ⌝ }
+    requires { ⌜ Ready (map (flashBetween (now bottoms) (now ends)) (fromLine (last .0) (setOf (last .0) (now t)) (left .0))) done (now room) ⌝ }
+    ensures { λ r. ⌜ Added (map (flashBetween (now (bottoms .entry)) (now (ends .entry))) (fromLine (last .0) (setOf (last .0) (now (t .entry))) (left .0))) (now (room .entry)) done r (now (room .exit)) ⌝ }
 {
-    if !table::is_on(t, last, k) {
-        return done;
+    let mut done = done;
+    let mut right = table::next_end(t, last, left, left);
+    while 0 < right.0 {
+        done = write_flash(bottoms, ends, Interval { left, right }, room, done);
+        right = table::next_end(t, last, left, right);
     }
-    write_flash(bottoms, ends, table::interval_at(k), room, done)
+    done
 }
 
 // A flash for each interval of the table, in the table's order, from its columns' bottoms and ends.
@@ -139,9 +142,10 @@ pub fn write_flashes(last: Line, bottoms: &[u8], ends: &[u8], t: &Table, room: &
     requires { ⌜ (length (setOf (last .0) (now t)) ≤ side) × (flashRoom ≤ length (now room)) ⌝ }
     ensures { λ r. ⌜ FlashesDone (map (flashBetween (now (bottoms .entry)) (now (ends .entry))) (setOf (last .0) (now (t .entry)))) (now (room .entry)) r (now (room .exit)) ⌝ }
 {
+    let end = last.0;
     let mut done = Flashed { count: 0, area: 0 };
-    for k in 0..table::cells_to(last) {
-        done = write_cell(last, bottoms, ends, t, k, room, done);
+    for l in 0..end {
+        done = write_row(last, bottoms, ends, t, Line(l), room, done);
     }
     done
 }

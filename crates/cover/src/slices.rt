@@ -1,23 +1,33 @@
 // Slices, and the starting set (rule 1).
 ghost use mathlib.Core.Path.{_≡_};
+ghost use mathlib.Core.Bool.{false};
 ghost use mathlib.Core.List.{[]};
-ghost use Prim.Native.Nat.{_+_, _-_};
-ghost use Rattle.lists.specs.Lists as List;
-ghost use Rattle.lists.specs.Lists.{first};
-ghost use Rattle.grid.specs.Lines.{column, line, spanOf};
-ghost use Rattle.grid.specs.Code.{Sized, areaIn, levelOf, orEnd, asAsked};
-ghost use Rattle.intervals.specs.Table.{tableOf};
+ghost use Prim.Native.Nat.{_<_, _≤_};
+ghost use lib.ListN.{length};
+ghost use Rattle.grid.specs.Limits.{side, lines};
+ghost use Rattle.grid.specs.Lines.{line, spanOf};
+ghost use Rattle.grid.specs.Code.{Sized, areaIn};
+ghost use Rattle.words.specs.Words.{bits, on};
+ghost use Rattle.intervals.specs.Table.{Tabled, setOf, tableOf};
 ghost use Rattle.cover.specs.Slices;
-ghost use Rattle.cover.specs.Slices.{copperAlong, endsLeft, endsRight, slice, lowestShown};
+ghost use Rattle.cover.specs.Slices.{copperAlong};
+ghost use Rattle.cover.specs.Code.{Columned, Rowed, between, flippedAt, changing, withChanged};
+use grid::limits::LINES;
 use grid::lines::Column;
 use grid::lines::Interval;
 use grid::lines::Line;
 use grid::lines::Row;
-use grid::raster::Level;
 use grid::raster::Size;
 use grid::raster::is_copper;
 use intervals::Table;
 use intervals::table;
+use words::both;
+use words::differing;
+use words::flipped;
+use words::last_off;
+use words::next_off;
+use words::next_on;
+use words::spread;
 
 // The line to the right of the job's last column.
 pub fn last_line(size: Size) -> Line
@@ -40,99 +50,64 @@ pub fn copper_along(size: Size, raster: &[u8], row: Row, i: Interval) -> bool
     true
 }
 
-// To the left of line 0 there is no square.
-fn ends_left(size: Size, raster: &[u8], row: Row, line: Line) -> bool
-    requires { ⌜ Sized size (now raster) ⌝ }
-    ensures { λ r. ⌜ r ≡ endsLeft (areaIn size (now (raster .entry))) (row .0) (line .0) ⌝ }
+// Turns one column of one row over.
+fn flip(rows: &mut [u64], y: usize, c: usize)
+    requires { ⌜ (y < length (now rows)) × (c < bits) ⌝ }
+    ensures { λ _. ⌜ Rowed (flippedAt y c (now (rows .entry))) (now (rows .exit)) ⌝ }
 {
-    if line.0 == 0 {
-        return true;
-    }
-    !is_copper(size, raster, line.column_before(), row)
+    rows[y] = flipped(rows[y], c);
 }
 
-fn ends_right(size: Size, raster: &[u8], row: Row, line: Line) -> bool
-    requires { ⌜ Sized size (now raster) ⌝ }
-    ensures { λ r. ⌜ r ≡ endsRight (areaIn size (now (raster .entry))) (row .0) (line .0) ⌝ }
+// For each row the columns whose copper begins or ends there: what changes from the row below.
+fn changes(width: usize, bottoms: &[u8], ends: &[u8], rows: &mut [u64])
+    requires { ⌜ Columned width (now bottoms) (now ends) × (lines ≤ length (now rows)) ⌝ }
+    requires { ⌜ Rowed (λ y c. false) (now rows) ⌝ }
+    ensures { λ _. ⌜ Rowed (changing width (now (bottoms .entry)) (now (ends .entry))) (now (rows .exit)) ⌝ }
 {
-    !is_copper(size, raster, line.column_after(), row)
+    for c in 0..width {
+        flip(rows, bottoms[c] as usize, c);
+        flip(rows, ends[c] as usize, c);
+    }
 }
 
-fn is_slice(size: Size, raster: &[u8], row: Row, i: Interval) -> bool
-    requires { ⌜ Sized size (now raster) ⌝ }
-    ensures { λ r. ⌜ r ≡ slice (areaIn size (now (raster .entry))) (row .0) (spanOf i) ⌝ }
+// The slices of a row that have a change in them or beside them; every other slice the row below shows too.
+fn put_changed(last: Line, row: u64, changed: u64, t: &mut Table)
+    requires { ⌜ Tabled (last .0) (now t) × (on row (last .0) ≡ false) ⌝ }
+    ensures { λ _. ⌜ now (t .exit) ≡ tableOf (withChanged (last .0) (on row) (on changed) (setOf (last .0) (now (t .entry)))) ⌝ }
 {
-    if i.length() == 0 {
-        return false;
-    }
-    if !ends_left(size, raster, row, i.left) {
-        return false;
-    }
-    if !ends_right(size, raster, row, i.right) {
-        return false;
-    }
-    copper_along(size, raster, row, i)
-}
-
-// The lowest row that shows the interval as a slice; rows above it need not.
-pub fn lowest_shown(size: Size, raster: &[u8], i: Interval) -> Level
-    requires { ⌜ Sized size (now raster) ⌝ }
-    ensures { λ r. ⌜ r ≡ levelOf (lowestShown (areaIn size (now (raster .entry))) (size .height) (spanOf i)) ⌝ }
-{
-    let h = size.height;
-    for y in 0..h {
-        if is_slice(size, raster, Row(y), i) {
-            return Level::In(Row(y));
-        }
-    }
-    Level::None
-}
-
-// The next column from `from` on whose square in the row is copper, or is not, as asked; the one past the last where there is none.
-fn next_column(size: Size, raster: &[u8], row: Row, from: Column, copper: bool) -> Column
-    requires { ⌜ Sized size (now raster) ⌝ }
-    ensures { λ r. ⌜ r ≡ column (orEnd (size .width) (first (λ k. asAsked copper (areaIn size (now (raster .entry)) k (row .0))) (List.from («from» .0) (size .width - «from» .0)))) ⌝ }
-{
-    let w = size.width;
-    for c in from.0..w {
-        if is_copper(size, raster, Column(c), row) == copper {
-            return Column(c);
-        }
-    }
-    Column(w)
-}
-
-// Each slice of the row, from the left, into the table of what the rows below it show.
-fn put_row(size: Size, raster: &[u8], row: Row, t: &mut Table)
-    requires { ⌜ Sized size (now raster) ⌝ }
-    requires { ⌜ now t ≡ tableOf (Slices.starting (areaIn size (now raster)) (size .width) (row .0)) ⌝ }
-    ensures { λ _. ⌜ now (t .exit) ≡ tableOf (Slices.starting (areaIn size (now (raster .entry))) (size .width) (row .0 + 1)) ⌝ }
-{
-    let last = last_line(size);
-    let mut at = Column(0);
+    let touched = both(spread(changed), row);
+    let mut at = 0;
     loop {
-        let first = next_column(size, raster, row, at, true);
-        if last.0 <= first.0 {
+        let c = next_on(touched, at);
+        if last.0 <= c {
             return;
         }
-        let end = next_column(size, raster, row, first, false);
+        // The run that holds c begins one past the last bare column before it.
+        let first = last_off(row, c);
+        let end = next_off(row, c);
         let i = Interval {
-            left: first.left_line(),
-            right: end.left_line(),
+            left: Column(first).left_line(),
+            right: Column(end).left_line(),
         };
         table::put(t, last, i);
         at = end;
     }
 }
 
-// The starting set, into an empty table: row after row.
-pub fn starting(size: Size, raster: &[u8], t: &mut Table)
-    requires { ⌜ Sized size (now raster) ⌝ }
+// The starting set, into an empty table: row after row, each by what changes from the row below.
+pub fn starting(size: Size, bottoms: &[u8], ends: &[u8], t: &mut Table)
+    requires { ⌜ Columned (size .width) (now bottoms) (now ends) × (size .height ≤ side) ⌝ }
     requires { ⌜ now t ≡ tableOf [] ⌝ }
-    ensures { λ _. ⌜ now (t .exit) ≡ tableOf (Slices.starting (areaIn size (now (raster .entry))) (size .width) (size .height)) ⌝ }
+    ensures { λ _. ⌜ now (t .exit) ≡ tableOf (Slices.starting (between (size .width) (now (bottoms .entry)) (now (ends .entry))) (size .width) (size .height)) ⌝ }
 {
+    let last = last_line(size);
     let h = size.height;
+    let mut rows = [0u64; LINES];
+    changes(size.width, bottoms, ends, &mut rows);
+    let mut row: u64 = 0;
     for y in 0..h {
-        put_row(size, raster, Row(y), t);
+        let changed = rows[y];
+        row = differing(row, changed);
+        put_changed(last, row, changed, t);
     }
 }

@@ -98,13 +98,22 @@ fn print_interval(i: Interval) {
     io::write_all(STDOUT_FILENO, b")");
 }
 
+// The intervals from line `left`.
+fn print_row(t: &Table, last: Line, left: Line)
+    requires { ⌜ Tabled (last .0) (now t) ⌝ }
+{
+    let mut right = table::next_end(t, last, left, left);
+    while 0 < right.0 {
+        print_interval(Interval { left, right });
+        right = table::next_end(t, last, left, right);
+    }
+}
+
 fn print(t: &Table, last: Line)
     requires { ⌜ Tabled (last .0) (now t) ⌝ }
 {
-    for k in 0..table::cells_to(last) {
-        if table::is_on(t, last, k) {
-            print_interval(table::interval_at(k));
-        }
+    for l in 0..last.0 {
+        print_row(t, last, Line(l));
     }
 }
 
@@ -223,20 +232,20 @@ fn reduce_chosen(t: &mut Table, last: Line, order: Order, number: usize) -> bool
     true
 }
 
-// Each reduction takes an interval away, so there are fewer than cells.
+// Each reduction takes an interval away, so there are no more than intervals.
 fn merge_chosen(t: &mut Table, last: Line, order: Order, seed: usize) -> usize
     requires { ⌜ Tabled (last .0) (now t) ⌝ }
     ensures { λ r. ⌜ Tabled (last .0) (now (t .exit)) ⌝ }
 {
-    let cells = table::cells_to(last);
+    let intervals = table::size(t, last);
     let mut number = seed;
-    for reductions in 0..cells {
+    for reductions in 0..intervals {
         number = following(number);
         if !reduce_chosen(t, last, order, number) {
             return reductions;
         }
     }
-    cells
+    intervals
 }
 
 // Rule 5 itself.

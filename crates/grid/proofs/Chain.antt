@@ -11,7 +11,9 @@ use native.Mathlib.Omega.{arith}
 use borrow.Author.Tests.{eq-eqb, ne-eqb}
 use Rattle.grid.specs.Squares.{Square}
 use Rattle.grid.specs.Answers.{answer, done, refused, check, checkAt, orElse, firstRefusal}
+use Rattle.grid.specs.Code.{placeOf, squareIn}
 use Rattle.grid.specs.declared.answers.Answer.{Answer}
+use Rattle.grid.specs.declared.raster.Place.{Place}
 
 -- a check passes where its answer refuses nothing
 abbrev pub Passes : Answer → Type 0
@@ -134,3 +136,11 @@ turn-from a (b ∷ later) p all =
 
 pub in-turn : (cs : List Answer) → Each Plain cs → inTurn done cs ≡ firstRefusal cs
 in-turn cs all = turn-from done cs (λ e. refl) all ∙ gives-way done _ refl
+
+-- what was found, as a check
+pub found-check : (n : ℕ) (o : Option Square) {p : Place} → p ≡ placeOf o → checkAt (squareIn p) n ≡ checkAt o n
+found-check n o e = ap (λ (q : Place). checkAt (squareIn q) n) e ∙ ap (λ (z : Option Square). checkAt z n) (there o)
+  where
+    there : (z : Option Square) → squareIn (placeOf z) ≡ z
+    there none = refl
+    there (some s) = refl

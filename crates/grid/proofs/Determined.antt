@@ -26,7 +26,6 @@ use Rattle.grid.proofs.raster.length_fits
 use Rattle.grid.proofs.raster.bad_byte
 use Rattle.grid.proofs.raster.is_copper
 use Rattle.grid.proofs.raster.broken
-use Rattle.grid.proofs.raster.copper_number
 use Rattle.grid.proofs.rooms.put_bytes
 
 pub done-determined : Determined done.Kinds.ps done.Kinds.r done.Reads.Pre done.Reads.Post
@@ -91,9 +90,6 @@ is-copper-determined κs a pre x y v w p q = (p ∙ sym q, refl)
 
 pub broken-determined : Determined broken.Kinds.ps broken.Kinds.r broken.Reads.Pre broken.Reads.Post
 broken-determined κs a pre x y v w p q = (p ∙ sym q, refl)
-
-pub copper-number-determined : Determined copper_number.Kinds.ps copper_number.Kinds.r copper_number.Reads.Pre copper_number.Reads.Post
-copper-number-determined κs a pre x y v w p q = (p ∙ sym q, refl)
 
 pub put-bytes-determined : Determined put_bytes.Kinds.ps put_bytes.Kinds.r put_bytes.Reads.Pre put_bytes.Reads.Post
 put-bytes-determined κs a pre x y v w p q = (p .past ∙ sym (q .past), ap (λ (l : List ℕ). (l, v .1)) (p .left ∙ sym (q .left)))

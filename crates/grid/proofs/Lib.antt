@@ -6,7 +6,6 @@ pub mod Next
 pub mod Gaps
 pub mod Areas
 pub mod GridSquares
-pub mod CopperBytes
 pub mod Leftmost
 pub mod Broken
 pub mod Pigeonhole

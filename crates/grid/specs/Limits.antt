@@ -35,6 +35,14 @@ markRoom = side * markRecord
 abbrev pub bracketRoom : ℕ
 bracketRoom = side * lines / 2 * bracketRecord
 
+-- an area whose columns are unbroken has at most three slices for each column: one where its copper begins, two where it ends
+abbrev pub sliceLimit : ℕ
+sliceLimit = 3 * side
+
+-- room for the brackets of such an area
+abbrev pub bagRoom : ℕ
+bagRoom = sliceLimit * bracketRecord
+
 abbrev pub rasterRoom : ℕ
 rasterRoom = side * side
 

@@ -17,6 +17,10 @@ pub const MARK_ROOM: usize = SIDE * MARK_RECORD;
 
 pub const BRACKET_ROOM: usize = SIDE * LINES / 2 * BRACKET_RECORD;
 
+pub const SLICE_LIMIT: usize = 3 * SIDE;
+
+pub const BAG_ROOM: usize = SLICE_LIMIT * BRACKET_RECORD;
+
 pub const RASTER_ROOM: usize = SIDE * SIDE;
 
 pub const LIST_LIMIT: usize = 1024;

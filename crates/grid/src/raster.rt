@@ -1,10 +1,9 @@
-// The checks of a raster, its size, its bytes, its columns; and its copper number.
+// The checks of a raster: its size, its bytes, its columns.
 ghost use mathlib.Core.Path.{_≡_};
 ghost use Prim.Native.Nat.{_-_};
 ghost use lib.ListN.{length};
 ghost use Rattle.lists.specs.Lists as List;
 ghost use Rattle.lists.specs.Lists.{first};
-ghost use Rattle.grid.specs.Squares.{copperNumber};
 ghost use Rattle.grid.specs.Raster.{sideFits, sizeFits, lengthFits, firstBad, badSquare, gap, brokenSquare};
 ghost use Rattle.grid.specs.Code.{Sized, areaIn, placeOf, levelOf, orEnd, asAsked};
 use crate::limits::SIDE;
@@ -139,16 +138,4 @@ pub fn broken(size: Size, raster: &[u8]) -> Place
         }
     }
     Place::Nowhere
-}
-
-// How many squares are copper, by one pass over the raster.
-pub fn copper_number(size: Size, raster: &[u8]) -> usize
-    requires { ⌜ Sized size (now raster) ⌝ }
-    ensures { λ r. ⌜ r ≡ copperNumber (areaIn size (now (raster .entry))) (size .width) (size .height) ⌝ }
-{
-    let mut n: usize = 0;
-    for k in 0..raster.len() {
-        n += (raster[k] == 1) as usize;
-    }
-    n
 }

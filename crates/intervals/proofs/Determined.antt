@@ -1,16 +1,20 @@
 -- Every public function's contract determines its outcome: no second result fits, and no second table.
--- Each `ensures` is an equation of the result, or of the table as it is left, with a definition.
+-- Each `ensures` is an equation of the result, or of the table as it is left, with a definition, or says of every bit of a word whether it is on.
 use mathlib.Core.Path.{refl, sym, _∙_}
 use Rattle.grid.proofs.Outcome.{Determined}
-use Rattle.intervals.proofs.table.interval_at
-use Rattle.intervals.proofs.table.cells_to
-use Rattle.intervals.proofs.table.is_on
+use Rattle.words.proofs.Words.{bits-determine}
 use Rattle.intervals.proofs.table.empty
 use Rattle.intervals.proofs.table.copy
 use Rattle.intervals.proofs.table.has
 use Rattle.intervals.proofs.table.put
 use Rattle.intervals.proofs.table.take
+use Rattle.intervals.proofs.table.row
+use Rattle.intervals.proofs.table.next_end
+use Rattle.intervals.proofs.table.begun_from
+use Rattle.intervals.proofs.table.cut
+use Rattle.intervals.proofs.table.ends_beyond
 use Rattle.intervals.proofs.table.size
+use Rattle.intervals.proofs.table.doubled
 use Rattle.intervals.proofs.column.held
 use Rattle.intervals.proofs.column.least
 use Rattle.intervals.proofs.column.strike
@@ -24,15 +28,6 @@ use Rattle.intervals.proofs.final_set.final_set
 use Rattle.intervals.proofs.final_set.finish
 use Rattle.intervals.proofs.final_set.final_copy
 use Rattle.intervals.proofs.sweep.final_set_swept
-
-pub interval-at-determined : Determined interval_at.Kinds.ps interval_at.Kinds.r interval_at.Reads.Pre interval_at.Reads.Post
-interval-at-determined κs a pre x y v w p q = (p ∙ sym q, refl)
-
-pub cells-to-determined : Determined cells_to.Kinds.ps cells_to.Kinds.r cells_to.Reads.Pre cells_to.Reads.Post
-cells-to-determined κs a pre x y v w p q = (p ∙ sym q, refl)
-
-pub is-on-determined : Determined is_on.Kinds.ps is_on.Kinds.r is_on.Reads.Pre is_on.Reads.Post
-is-on-determined κs a pre x y v w p q = (p ∙ sym q, refl)
 
 pub empty-determined : Determined empty.Kinds.ps empty.Kinds.r empty.Reads.Pre empty.Reads.Post
 empty-determined κs a pre x y v w p q = (p ∙ sym q, refl)
@@ -49,8 +44,26 @@ put-determined κs a pre x y v w p q = (refl, λ i. ((p ∙ sym q) i, v .1))
 pub take-determined : Determined take.Kinds.ps take.Kinds.r take.Reads.Pre take.Reads.Post
 take-determined κs a pre x y v w p q = (refl, λ i. ((p ∙ sym q) i, v .1))
 
+pub row-determined : Determined row.Kinds.ps row.Kinds.r row.Reads.Pre row.Reads.Post
+row-determined κs a pre x y v w p q = (p ∙ sym q, refl)
+
+pub next-end-determined : Determined next_end.Kinds.ps next_end.Kinds.r next_end.Reads.Pre next_end.Reads.Post
+next-end-determined κs a pre x y v w p q = (p ∙ sym q, refl)
+
+pub begun-from-determined : Determined begun_from.Kinds.ps begun_from.Kinds.r begun_from.Reads.Pre begun_from.Reads.Post
+begun-from-determined κs a pre x y v w p q = (p ∙ sym q, refl)
+
+pub cut-determined : Determined cut.Kinds.ps cut.Kinds.r cut.Reads.Pre cut.Reads.Post
+cut-determined κs a pre x y v w p q = (refl, λ i. ((p ∙ sym q) i, v .1))
+
+pub ends-beyond-determined : Determined ends_beyond.Kinds.ps ends_beyond.Kinds.r ends_beyond.Reads.Pre ends_beyond.Reads.Post
+ends-beyond-determined κs a pre x y v w p q = (p ∙ sym q, refl)
+
 pub size-determined : Determined size.Kinds.ps size.Kinds.r size.Reads.Pre size.Reads.Post
 size-determined κs a pre x y v w p q = (p ∙ sym q, refl)
+
+pub doubled-determined : Determined doubled.Kinds.ps doubled.Kinds.r doubled.Reads.Pre doubled.Reads.Post
+doubled-determined κs a pre x y v w p q = (bits-determine x y p q, refl)
 
 pub held-determined : Determined held.Kinds.ps held.Kinds.r held.Reads.Pre held.Reads.Post
 held-determined κs a pre x y v w p q = (p ∙ sym q, refl)

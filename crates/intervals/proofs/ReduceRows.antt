@@ -4,25 +4,27 @@ use mathlib.Core.Path.{_≡_, refl, sym, ap, _∙_, fun-ext}
 use mathlib.Core.Bool.{true, false}
 use mathlib.Core.List.{List}
 use mathlib.Core.Logic.{by-cases, ite, if-pos, if-neg}
-use Prim.Native.Nat.{ℕ, zero, suc, _+_, _*_, _≤_, _<_, min, max}
+use Prim.Native.Nat.{ℕ, zero, suc, _+_, _-_, _≤_, _<_, min, max}
 use native.Mathlib.Omega.{arith}
-use native.Mathlib.Decide.{decLt, ℕ-discrete, le-ind}
+use native.Mathlib.Decide.{decLe, decLt, ℕ-discrete, le-ind}
 use lib.Dec.{ltb}
-use lib.ListN.{getD}
 use borrow.Author.Tests.{ltb-true, ltb-false, lt-ltb, le-ltb}
-use Rattle.lists.proofs.Truth.{bcase, fails}
+use Rattle.lists.specs.Lists.{first, down}
+use Rattle.lists.proofs.Truth.{bcase, ocase, fails}
+use Rattle.lists.proofs.Searches.{down-within, down-missed, down-above}
 use Rattle.method.specs.Intervals.{Interval as Span, span, member}
 use Rattle.method.specs.Reduce.{reduce}
 use Rattle.method.specs.Runs.{Listed}
-use Rattle.method.proofs.Sets.{Set, has, bit, top, e, red}
+use Rattle.method.proofs.Sets.{Set, has, top, e, red}
 use Rattle.method.proofs.Staircase.{top-le, e-step, e-jump, e-attained}
 use Rattle.method.proofs.Star.{Jump, Place, drop, add, keep, place, red-same, red-before, red-after}
 use Rattle.method.proofs.RuleFour.{rule-four}
 use Rattle.method.proofs.Listed.{select-listed, listed-lines, listed-equal}
-use Rattle.grid.specs.Limits.{lines}
-use Rattle.intervals.specs.Table.{setOf, Tabled, changed}
+use Rattle.grid.specs.Limits.{side}
+use Rattle.words.specs.Words.{on, pastOf}
+use Rattle.intervals.specs.Table.{rowOf, changed}
 use Rattle.intervals.specs.Reach.{reach}
-use Rattle.intervals.proofs.TableLaws.{span-cell, set-listed, tabled-at, changed-listed, changed-here, changed-other}
+use Rattle.intervals.proofs.TableLaws.{row-end, changed-listed, changed-here, changed-other}
 
 -- one turn of `furthest`
 module _ (s : List Span) (l p : ℕ) where
@@ -56,30 +58,42 @@ module _ (s : List Span) (l p : ℕ) where
       (λ u. rw (u, t) (omega (arith, ltb-false p (suc r) u))))
       (λ f. bcase (ltb p (suc r)) (λ u. rw (u, f) k) (λ u. rw (u, f) k))
 
--- a table's byte of two lines
-pub byte-at : {n : ℕ} {t : List ℕ} → Tabled n t → (l r : ℕ) → l < lines → r < lines → getD t (l * lines + r) 0 ≡ bit (member (span l r) (setOf n t))
-byte-at {n} {t} T l r u v = tabled-at T (l * lines + r) (omega arith) ∙ ap (λ i. bit (member i (setOf n t))) (span-cell (span l r) v)
+-- the lines beyond r up to the last one at which no interval ends may be left out
+reach-seen : (s : List Span) (l p to r : ℕ) → r ≤ to → ((k : ℕ) → r < k → k ≤ to → member (span l k) s ≡ false) → reach s l p to ≡ reach s l p r
+reach-seen s l p to r h out =
+    le-ind (λ k. k ≤ to → reach s l p k ≡ reach s l p r) (λ _. refl)
+    (λ k u ih v. reach-miss s l p (suc k) k refl (out (suc k) (omega arith) v) ∙ ih (omega arith)) to h (omega arith)
 
--- the lines beyond r up to the last one that are not set may be left out, and with them those past the set's last line
-pub reach-seen : {n : ℕ} {t : List ℕ} → Tabled n t → (l p to r : ℕ) → l < n → r ≤ to
-    → ((k : ℕ) → r < k → k ≤ min n to → getD t (l * lines + k) 0 ≡ 1 → ⊥) → reach (setOf n t) l p to ≡ reach (setOf n t) l p r
-reach-seen {n} {t} T l p to r low h seen =
-    le-ind (λ k. k ≤ to → reach (setOf n t) l p k ≡ reach (setOf n t) l p r) (λ _. refl)
-    (λ k u ih v. reach-miss (setOf n t) l p (suc k) k refl (out (suc k) (omega arith) v) ∙ ih (omega arith)) to h (omega arith)
-  where
-    out : (k : ℕ) → r < k → k ≤ to → member (span l k) (setOf n t) ≡ false
-    out k u v =
-        fails (member (span l k) (setOf n t))
-        (λ m.
-        let w = listed-lines n (setOf n t) (set-listed n t) (span l k) m in
-        let f = T .fits in
-        seen k u (omega arith) (byte-at T l k (omega arith) (omega arith) ∙ ap bit m))
+-- the reach is the greatest line found, where it lies beyond line p
+module _ {n : ℕ} {s : List Span} (fits : n ≤ side) (listed : Listed n s) (l p to e : ℕ) (found : e ≡ pastOf (first (on (rowOf s l)) (down (min n to)))) where
+  -- line e is the greatest one up to both at which an interval ends
+  last-found : (e ≤ min n to) × (0 < e → member (span l e) s ≡ true) × ((k : ℕ) → e < k → k ≤ min n to → member (span l k) s ≡ false)
+  last-found =
+      ocase (first (on (rowOf s l)) (down (min n to)))
+      (λ q.
+      let z = found ∙ ap pastOf q in
+      (omega arith, λ h. absurd (omega arith), λ k u v. sym (row-end n fits listed l k (omega arith)) ∙ down-missed (on (rowOf s l)) (min n to) q (k - 1) (omega arith)))
+      (λ x q.
+      let z = found ∙ ap pastOf q in
+      let w = down-within (on (rowOf s l)) (min n to) q in
+      let x-at : e - 1 ≡ x = omega arith in (
+        omega arith,
+        λ h. sym (row-end n fits listed l e h) ∙ ap (on (rowOf s l)) x-at ∙ w .1,
+        λ k u v. sym (row-end n fits listed l k (omega arith)) ∙ down-above (on (rowOf s l)) (min n to) q (k - 1) (omega arith) (omega arith),
+      ))
 
-pub reach-past : {n : ℕ} {s : List Span} → Listed n s → (l p to : ℕ) → n ≤ l → reach s l p to ≡ p
-reach-past listed l p zero h = reach-low _ l p zero (omega arith)
-reach-past {n} {s} listed l p (suc r) h =
-    reach-miss s l p (suc r) r refl (fails (member (span l (suc r)) s) (λ m. omega (arith, listed-lines n s listed (span l (suc r)) m)))
-    ∙ reach-past listed l p r h
+  whole : reach s l p to ≡ reach s l p e
+  whole =
+      reach-seen s l p to e (omega (arith, last-found .0))
+      (λ k u v.
+      by-cases (decLe k n) (λ w. last-found .2 k u (omega arith))
+      (λ w. fails (member (span l k) s) (λ m. omega (arith, listed-lines n s listed (span l k) m))))
+
+  pub reach-found : p < e → e ≡ reach s l p to
+  reach-found h = sym (whole ∙ reach-hit s l p e (e - 1) (omega arith) h (last-found .1 (omega arith)))
+
+  pub reach-none : e ≤ p → p ≡ reach s l p to
+  reach-none h = sym (whole ∙ reach-low s l p e h)
 
 -- the set's rows before line l as rule 4 leaves them, the others as they are
 abbrev upto : Set → ℕ → ℕ → ℕ → Set

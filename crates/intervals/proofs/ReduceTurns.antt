@@ -1,5 +1,5 @@
 -- A reduction's pass over the rows of a bracket, turn by turn: the rows before line l are as rule 4 leaves them, and the interval that is carried reaches
--- as far as the staircase. A row without a jump stays; at a jump its greatest interval gives way to the meet. `reduce` and the engine's `reduce_kept` go by it.
+-- as far as the staircase. A row without a jump stays; at a jump its greatest interval gives way to the meet. `reduce` goes by it.
 use mathlib.Core.Path.{_≡_, sym, ap, ap₂, _∙_, subst⁻¹}
 use mathlib.Core.Bool.{true, false}
 use mathlib.Core.List.{List}

@@ -6,15 +6,15 @@ use mathlib.Core.Logic.{by-cases}
 use Prim.Native.Nat.{ℕ, zero, suc, _+_, _-_, _*_, _≤_}
 use native.Mathlib.Omega.{arith}
 use native.Mathlib.Decide.{decLe}
-use lib.Dec.{eqb}
 use lib.ListN.{length, getD, length-append, length-map, replicate, length-replicate}
 use Rattle.lists.specs.Lists.{gather, from}
 use Rattle.lists.proofs.Keep.{count-length, count-at-most}
 use Rattle.lists.proofs.Ranges.{length-from}
 use Rattle.method.specs.Intervals.{Interval as Span, span, beginningAt, every}
 use Rattle.grid.specs.Limits.{side, bracketRecord, bracketRoom}
+use Rattle.words.specs.Words.{on}
 use Rattle.intervals.specs.Finished.{Roomy}
-use Rattle.intervals.specs.Table.{cellOf, setOf}
+use Rattle.intervals.specs.Table.{setOf}
 
 -- 1 + 2 + .. + n
 abbrev sumTo : ℕ → ℕ
@@ -34,17 +34,17 @@ from-lines n a zero e = refl
 from-lines n a (suc m) e =
     length-append (beginningAt n a) (gather (beginningAt n) (from (suc a) m)) ∙ omega (arith, from-line n a, from-lines n (suc a) m (omega arith))
 
-set-roomy : (n : ℕ) (t : List ℕ) → n ≤ side → length (setOf n t) * bracketRecord ≤ bracketRoom
+pub set-bound : (n : ℕ) (t : List ℕ) → n ≤ side → length (setOf n t) * bracketRecord ≤ bracketRoom
 unfolding setOf
-set-roomy n t h =
+set-bound n t h =
     omega (
       arith,
       sum-rises n side h,
-      count-length (λ (i : Span). eqb (getD t (cellOf i) 0) 1) (every n),
-      count-at-most (λ (i : Span). eqb (getD t (cellOf i) 0) 1) (every n),
+      count-length (λ (i : Span). on (getD t (i .left) 0) (i .right - 1)) (every n),
+      count-at-most (λ (i : Span). on (getD t (i .left) 0) (i .right - 1)) (every n),
       from-lines n 0 n (omega arith),
     )
 
 -- a room of that length, cleared
 pub room-holds : (n : ℕ) (t : List ℕ) (m : ℕ) → m ≡ bracketRoom → n ≤ side → Roomy n t (replicate m 0)
-room-holds n t m e h = omega (arith, length-replicate {A = ℕ} m 0, set-roomy n t h)
+room-holds n t m e h = omega (arith, length-replicate {A = ℕ} m 0, set-bound n t h)

@@ -1,86 +1,76 @@
--- A table and the set that it holds: each byte is one membership, and a table of a set holds that set.
--- By the cell's number, left line * lines + right line, which gives both lines back. Every function over a table crosses here.
-use mathlib.Core.Path.{_≡_, refl, sym, ap, _∙_, subst⁻¹}
+-- A table and the set that it holds: each bit is one membership, and a table of a set holds that set.
+-- A word is known by its bits (crate words). Every function over a table crosses here.
+use mathlib.Core.Path.{_≡_, refl, sym, ap, _∙_, subst⁻¹, fun-ext}
 use mathlib.Core.Bool.{Bool, true, false, cond, _&&_}
 use mathlib.Core.List.{List, []}
 use mathlib.Core.Logic.{by-cases}
-use Prim.Native.Nat.{ℕ, _+_, _*_, _/_, _%_, _≤_, _<_}
+use Prim.Native.Nat.{ℕ, _+_, _-_, _^_, _≤_, _<_}
 use native.Mathlib.Omega.{arith}
-use native.Mathlib.Decide.{ℕ-discrete}
+use native.Mathlib.Decide.{decLt, ℕ-discrete}
 use lib.Dec.{leb, eqb}
-use borrow.Author.Tests.{leb-true, le-leb}
+use borrow.Author.Tests.{leb-true, le-leb, eq-eqb, ne-eqb}
 use lib.ListN.{length, getD, set, replicate, length-set, length-replicate, getD-replicate}
-use mir.Val.{boolByte}
 use lib.Seq.{getD-set-same, getD-set-other}
 use Rattle.lists.proofs.Truth.{agree, never, fails, and-left, and-right, and-both}
 use Rattle.lists.proofs.Keep.{keep-none}
 use Rattle.lists.proofs.Maps.{length-upTo, at-upTo, is-upTo}
-use Rattle.method.specs.Intervals.{Interval as Span, proper, same, every, member}
+use Rattle.method.specs.Intervals.{Interval as Span, span, proper, same, every, member}
 use Rattle.method.specs.Runs.{Listed}
-use Rattle.method.proofs.Sets.{bit}
 use Rattle.method.proofs.Lines.{same-path, path-same, proper-lines, lines-proper}
 use Rattle.method.proofs.Listed.{member-select, select-same, select-listed, listed-lines}
-use Rattle.grid.specs.Limits.{side, lines}
-use Rattle.intervals.specs.Table.{cells, cellOf, spanAt, cellsTo, onAt, setOf, tableOf, Tabled, changed}
+use Rattle.grid.specs.Limits.{side}
+use Rattle.words.specs.Words.{bits, on, wordOf}
+use Rattle.words.proofs.Words.{on-zero, on-high, on-word, word-lt, word-bits}
+use Rattle.intervals.specs.Table.{rowOf, setOf, tableOf, Tabled, changed}
 
--- a membership as a byte, and back
-pub bit-test : (b : Bool) → eqb (bit b) 1 ≡ b
-bit-test true = refl
-bit-test false = refl
+-- a word has a bit for each right line
+pub right-lines : side ≤ bits
+right-lines = omega arith
 
--- as a cast makes it
-pub cast-bit : (b : Bool) → boolByte b ≡ bit b
-cast-bit true = refl
-cast-bit false = refl
-
--- a cell gives its interval back, and an interval its cell
-pub span-cell : (i : Span) → i .right < lines → spanAt (cellOf i) ≡ i
-span-cell i h =
-    let l : (i .left * lines + i .right) / lines ≡ i .left = omega arith in
-    let r : (i .left * lines + i .right) % lines ≡ i .right = omega arith in
-    λ k. record { left = l k; right = r k }
-
-pub cell-span : (k : ℕ) → cellOf (spanAt k) ≡ k
-cell-span k = omega arith
-
--- the cell of an interval over the lines 0 to n is one of theirs
-pub cell-before : (n : ℕ) → n ≤ side → (i : Span) → i .left < i .right → i .right ≤ n → cellOf i < cellsTo n
-cell-before n fits i l r = omega arith
-
--- the table of a set, byte by byte
+-- the table of a set, word by word
 module _ (s : List Span) where
-  pub table-length : length (tableOf s) ≡ cells
+  pub table-length : length (tableOf s) ≡ side
   unfolding tableOf
-  table-length = length-upTo (λ k. bit (member (spanAt k) s)) cells
+  table-length = length-upTo (rowOf s) side
 
-  pub table-at : (k : ℕ) → k < cells → getD (tableOf s) k 0 ≡ bit (member (spanAt k) s)
+  pub table-row : (l : ℕ) → l < side → getD (tableOf s) l 0 ≡ rowOf s l
   unfolding tableOf
-  table-at k h = at-upTo (λ k. bit (member (spanAt k) s)) cells k h
+  table-row l h = at-upTo (rowOf s) side l h
 
-  pub is-table : (t : List ℕ) → length t ≡ cells → ((k : ℕ) → k < cells → getD t k 0 ≡ bit (member (spanAt k) s)) → t ≡ tableOf s
+  pub is-table : (t : List ℕ) → length t ≡ side → ((l : ℕ) → l < side → getD t l 0 ≡ rowOf s l) → t ≡ tableOf s
   unfolding tableOf
-  is-table t e h = is-upTo (λ k. bit (member (spanAt k) s)) cells t e h
+  is-table t e h = is-upTo (rowOf s) side t e h
 
 -- the set of a table
 module _ (n : ℕ) (t : List ℕ) where
   pub set-listed : Listed n (setOf n t)
   unfolding setOf
-  set-listed = select-listed n (λ i. eqb (getD t (cellOf i) 0) 1)
+  set-listed = select-listed n (λ i. on (getD t (i .left) 0) (i .right - 1))
 
-  pub member-set : (i : Span) → member i (setOf n t) ≡ (proper i && leb (i .right) n && eqb (getD t (cellOf i) 0) 1)
+  pub member-set : (i : Span) → member i (setOf n t) ≡ (proper i && leb (i .right) n && on (getD t (i .left) 0) (i .right - 1))
   unfolding setOf
-  member-set i = member-select n (λ i. eqb (getD t (cellOf i) 0) 1) i
+  member-set i = member-select n (λ i. on (getD t (i .left) 0) (i .right - 1)) i
+
+-- each bit of a line's word is one membership, and there are no others
+pub row-on : (n : ℕ) {s : List Span} → n ≤ side → Listed n s → (l k : ℕ) → on (rowOf s l) k ≡ member (span l (k + 1)) s
+row-on n {s} fits listed l k =
+    let p : ℕ → Bool = λ k. member (span l (k + 1)) s in
+    by-cases (decLt k bits) (λ u. on-word p k u)
+    (λ u. on-high (rowOf s l) k (word-lt p) (omega arith) ∙ sym (fails (p k) (λ m. omega (arith, right-lines, listed-lines n s listed (span l (k + 1)) m))))
+
+pub row-end : (n : ℕ) {s : List Span} → n ≤ side → Listed n s → (l r : ℕ) → 0 < r → on (rowOf s l) (r - 1) ≡ member (span l r) s
+row-end n {s} fits listed l r h =
+    let e : r - 1 + 1 ≡ r = omega arith in
+    row-on n fits listed l (r - 1) ∙ ap (λ z. member (span l z) s) e
 
 -- a set over lines within the limit is what its table holds
 module _ (n : ℕ) (s : List Span) (fits : n ≤ side) (listed : Listed n s) where
   pub set-table : setOf n (tableOf s) ≡ s
   unfolding setOf
   set-table =
-      select-same n (λ i. eqb (getD (tableOf s) (cellOf i) 0) 1) (λ i. member i s)
+      select-same n (λ i. on (getD (tableOf s) (i .left) 0) (i .right - 1)) (λ i. member i s)
       (λ i l r.
-      ap (λ b. eqb b 1) (table-at s (cellOf i) (omega arith))
-      ∙ bit-test (member (spanAt (cellOf i)) s)
-      ∙ ap (λ j. member j s) (span-cell i (omega arith)))
+      ap (λ w. on w (i .right - 1)) (table-row s (i .left) (omega arith)) ∙ row-end n fits listed (i .left) (i .right) (omega arith))
       ∙ sym listed
 
   pub tabled : Tabled n (tableOf s)
@@ -91,14 +81,20 @@ module _ (n : ℕ) (s : List Span) (fits : n ≤ side) (listed : Listed n s) whe
   left-as e = (subst⁻¹ (Tabled n) e tabled, ap (setOf n) e ∙ set-table)
 
 module _ {n : ℕ} {t : List ℕ} (T : Tabled n t) where
-  pub tabled-length : length t ≡ cells
+  pub tabled-length : length t ≡ side
   tabled-length = ap length (T .whole) ∙ table-length (setOf n t)
 
-  pub tabled-at : (k : ℕ) → k < cells → getD t k 0 ≡ bit (member (spanAt k) (setOf n t))
-  tabled-at k h = ap (λ u. getD u k 0) (T .whole) ∙ table-at (setOf n t) k h
+  pub tabled-row : (l : ℕ) → l < side → getD t l 0 ≡ rowOf (setOf n t) l
+  tabled-row l h = ap (λ u. getD u l 0) (T .whole) ∙ table-row (setOf n t) l h
 
-  pub tabled-on : (k : ℕ) → k < cellsTo n → eqb (getD t k 0) 1 ≡ onAt (setOf n t) k
-  tabled-on k h = let fits = T .fits in ap (λ b. eqb b 1) (tabled-at k (omega arith)) ∙ bit-test (onAt (setOf n t) k)
+  pub tabled-on : (l k : ℕ) → l < side → on (getD t l 0) k ≡ member (span l (k + 1)) (setOf n t)
+  tabled-on l k h = ap (λ w. on w k) (tabled-row l h) ∙ row-on n (T .fits) (set-listed n t) l k
+
+  -- a line at which no interval begins
+  pub row-none : (l : ℕ) → n ≤ l → 0 ≡ rowOf (setOf n t) l
+  row-none l h =
+      word-bits (omega arith)
+      (λ k u. on-zero k ∙ sym (fails (member (span l (k + 1)) (setOf n t)) (λ m. omega (arith, listed-lines n (setOf n t) (set-listed n t) (span l (k + 1)) m))))
 
 -- the test for an interval over the lines 0 to n
 pub within-lines : (n : ℕ) (i : Span) → (proper i && leb (i .right) n) ≡ true → (i .left < i .right) × (i .right ≤ n)
@@ -108,9 +104,9 @@ within-lines n i t =
 pub within-none : (n : ℕ) (i : Span) → (proper i && leb (i .right) n) ≡ false → (i .left < i .right) × (i .right ≤ n) → ⊥
 within-none n i f w = never (and-both (proper i) (leb (i .right) n) (lines-proper i (w .0)) (le-leb (i .right) n (w .1))) f
 
--- membership by that test and the byte
-pub has-byte : (n : ℕ) (t : List ℕ) (i : Span) {k : ℕ} → (proper i && leb (i .right) n) ≡ true → k ≡ cellOf i → eqb (getD t k 0) 1 ≡ member i (setOf n t)
-has-byte n t i w e = ap (λ k. eqb (getD t k 0) 1) e ∙ sym (member-set n t i ∙ rw w)
+-- membership by that test and the bit
+pub has-bit : (n : ℕ) (t : List ℕ) (i : Span) → (proper i && leb (i .right) n) ≡ true → on (getD t (i .left) 0) (i .right - 1) ≡ member i (setOf n t)
+has-bit n t i w = sym (member-set n t i ∙ rw w)
 
 pub has-none : (n : ℕ) (t : List ℕ) (i : Span) → (proper i && leb (i .right) n) ≡ false → false ≡ member i (setOf n t)
 has-none n t i w = sym (member-set n t i ∙ rw w)
@@ -151,27 +147,39 @@ module _ (n : ℕ) (i : Span) (b : Bool) (s : List Span) where
       listed ∙ select-same n (λ j. member j s) (λ j. cond (same i j) b (member j s)) (λ j l r. rw (apart h j l r))
 
 module _ {n : ℕ} {t : List ℕ} (T : Tabled n t) where
-  -- one byte written
-  set-cell : (i : Span) (b : Bool) (s : List Span) → i .left < i .right → i .right ≤ n → member i s ≡ b
-      → ((j : Span) → (i ≡ j → ⊥) → member j s ≡ member j (setOf n t)) → set t (cellOf i) (bit b) ≡ tableOf s
-  set-cell i b s l r here other =
-      let fits = T .fits in
+  -- one word written
+  pub set-row : (l w : ℕ) (s : List Span) → l < side → w < 2 ^ bits → ((k : ℕ) → on w k ≡ member (span l (k + 1)) s)
+      → ((j : Span) → (j .left ≡ l → ⊥) → member j s ≡ member j (setOf n t)) → set t l w ≡ tableOf s
+  set-row l w s h small here other =
       let size = tabled-length T in
-      let place = span-cell i (omega arith) in
-      is-table s (set t (cellOf i) (bit b)) (length-set t (cellOf i) (bit b) ∙ size)
-      (λ k h.
-      by-cases (ℕ-discrete k (cellOf i))
+      is-table s (set t l w) (length-set t l w ∙ size)
+      (λ m u.
+      by-cases (ℕ-discrete m l)
+      (λ e. rw e (getD-set-same t l w 0 (omega arith) ∙ word-bits small (λ k v. here k)))
       (λ e.
-      rw e
-      (getD-set-same t (cellOf i) (bit b) 0 (omega arith) ∙ ap bit (sym here ∙ ap (λ j. member j s) (sym place))))
-      (λ e.
-      getD-set-other t (cellOf i) k (bit b) 0 e
-      ∙ tabled-at T k h
-      ∙ ap bit (sym (other (spanAt k) (λ q. e (sym (ap cellOf q ∙ cell-span k)))))))
+      getD-set-other t l m w 0 e
+      ∙ tabled-row T m u
+      ∙ ap wordOf (fun-ext (λ k. sym (other (span m (k + 1)) e)))))
 
-  pub change-cell : (i : Span) (b : Bool) → i .left < i .right → i .right ≤ n → set t (cellOf i) (bit b) ≡ tableOf (changed n i b (setOf n t))
-  change-cell i b l r =
-      set-cell i b (changed n i b (setOf n t)) l r (changed-here n i b (setOf n t) l r) (changed-other n i b (setOf n t) (set-listed n t))
+  pub change-row : (i : Span) (b : Bool) (w : ℕ) → i .left < i .right → i .right ≤ n → w < 2 ^ bits
+      → ((k : ℕ) → on w k ≡ cond (eqb k (i .right - 1)) b (on (getD t (i .left) 0) k)) → set t (i .left) w ≡ tableOf (changed n i b (setOf n t))
+  change-row i b w l r small told =
+      let fits = T .fits in
+      set-row (i .left) w (changed n i b (setOf n t)) (omega arith) small
+      (λ k. told k ∙ here k)
+      (λ j d. changed-other n i b (setOf n t) (set-listed n t) j (λ e. d (sym (ap (λ (x : Span). x .left) e))))
+    where
+      here : (k : ℕ) → cond (eqb k (i .right - 1)) b (on (getD t (i .left) 0) k) ≡ member (span (i .left) (k + 1)) (changed n i b (setOf n t))
+      here k =
+          let fits = T .fits in
+          by-cases (ℕ-discrete k (i .right - 1))
+          (λ e.
+          let q : k + 1 ≡ i .right = omega arith in
+          rw (eq-eqb k (i .right - 1) e) (sym (ap (λ r. member (span (i .left) r) (changed n i b (setOf n t))) q ∙ changed-here n i b (setOf n t) l r)))
+          (λ e.
+          rw (ne-eqb k (i .right - 1) e)
+          (tabled-on T (i .left) k (omega arith)
+          ∙ sym (changed-other n i b (setOf n t) (set-listed n t) (span (i .left) (k + 1)) (λ q. e (omega (arith, ap (λ (x : Span). x .right) q))))))
 
   pub change-none : (i : Span) (b : Bool) → ((i .left < i .right) × (i .right ≤ n) → ⊥) → t ≡ tableOf (changed n i b (setOf n t))
   change-none i b h = T .whole ∙ ap tableOf (changed-none n i b (setOf n t) (set-listed n t) h)
@@ -181,6 +189,7 @@ pub empty-listed : (n : ℕ) → Listed n []
 empty-listed n = sym (keep-none (λ i. false) (every n) (λ i m. refl))
 
 -- the table of no interval
-pub empty-table : (m : ℕ) → m ≡ cells → replicate m 0 ≡ tableOf []
+pub empty-table : (m : ℕ) → m ≡ side → replicate m 0 ≡ tableOf []
 empty-table m e =
-    is-table [] (replicate m 0) (length-replicate m 0 ∙ e) (λ k h. getD-replicate m k 0 0 (omega arith))
+    is-table [] (replicate m 0) (length-replicate m 0 ∙ e)
+    (λ l h. getD-replicate m l 0 0 (omega arith) ∙ word-bits (omega arith) (λ k u. on-zero k))

@@ -1,5 +1,5 @@
 -- The two greatest right lines of several rows: a row's first line beyond the lesser one comes in, and its next where the first lies beyond both.
--- Which lines a row reaches is known by its box beyond each line. `with_row` takes a row in so, and `dependent` and the sweep read counts off them.
+-- Which lines a row reaches is known by its box beyond each line. `with_row` takes a row in so, the sweep asks for one row's own two, and counts are read off them.
 use mathlib.Core.Path.{_≡_, sym, ap, _∙_}
 use mathlib.Core.Bool.{Bool, true, false, _&&_}
 use mathlib.Core.List.{List}
@@ -12,7 +12,8 @@ use borrow.Author.Tests.{eqb-true, leb-true, ltb-true, eq-eqb, le-leb, lt-ltb}
 use Rattle.lists.proofs.Truth.{and-left, and-right, and-both}
 use Rattle.method.specs.Intervals.{Interval as Span, span}
 use Rattle.method.specs.Runs.{Listed}
-use Rattle.method.proofs.Sets.{Set, has, bit, K, top}
+use Rattle.method.proofs.Sets.{Set, has, bit, row, K, top}
+use Rattle.method.proofs.Sums.{sum-one}
 use Rattle.method.proofs.Boxes.{K-lines, K-has, K-find}
 use Rattle.method.proofs.Counts.{count-box}
 use Rattle.method.proofs.Staircase.{top-le, top-passes, top-greatest}
@@ -22,7 +23,6 @@ use Rattle.intervals.specs.declared.dependent.Tops.{Tops}
 use Rattle.intervals.specs.Reach.{reach}
 use Rattle.intervals.specs.Tops.{tops, endsBeyond, Greatest, WithRow}
 use Rattle.intervals.proofs.ReduceRows.{reach-top}
-use Rattle.intervals.proofs.RowCounts.{one-place}
 
 abbrev endsTest : ℕ → ℕ → ℕ → Span → Bool
 endsTest l b x i = eqb (i .left) l && ltb x (i .right) && leb (i .right) b
@@ -41,9 +41,14 @@ lines-end l b x i e u v =
     (and-both (eqb (i .left) l) (ltb x (i .right)) (eq-eqb (i .left) l e) (lt-ltb x (i .right) u))
     (le-leb (i .right) b v)
 
-pub bit-small : (b : Bool) → bit b ≤ 1
+bit-small : (b : Bool) → bit b ≤ 1
 bit-small true = omega arith
 bit-small false = omega arith
+
+-- the box of one place
+pub one-place : (S : Set) (l c : ℕ) → K S l (suc l) c (suc c) ≡ bit (S l (suc c))
+unfolding K row
+one-place S l c = sum-one (λ k. row S k c (suc c)) l ∙ sum-one (λ r. bit (S l r)) (suc c)
 
 -- a row's lines beyond line x are its box
 pub ends-box : (n : ℕ) {s : List Span} → Listed n s → (l b x : ℕ) → endsBeyond s l b x ≡ K (has s) l (suc l) x b
@@ -126,17 +131,35 @@ greatest-same a f g t e G =
       single = λ x h. omega (arith, e x, G .single x h);
     }
 
+reached : (s : List Span) (l m b q : ℕ) → line q ≡ line (reach s l m b) → q ≡ max m (top (has s l) b)
+reached s l m b q e = ap (λ (z : Line). z .0) e ∙ reach-top s l m b
+
+-- the two greatest of one row
+pub two-greatest : (n : ℕ) {s : List Span} → Listed n s → (l b q p : ℕ) → line q ≡ line (reach s l 0 b) → line p ≡ line (reach s l 0 (q - 1))
+    → Greatest 0 (endsBeyond s l b) (tops q p)
+two-greatest n {s} listed l b q p e f =
+    let r = reached s l 0 b q e in
+    let here : q ≡ top (has s l) b = omega arith in
+    let next = reached s l 0 (q - 1) p f ∙ ap (λ z. max 0 (top (has s l) (z - 1))) here in
+    let below = top-le (has s l) (top (has s l) b - 1) in
+    record {
+      low = omega arith;
+      ordered = omega arith;
+      one = λ x o u. omega (arith, ends-box n listed l b x, one-beyond (has s) l b x (omega arith));
+      none = λ x u. omega (arith, ends-box n listed l b x, none-beyond (has s) l b x (omega arith));
+      two = λ x o u. omega (arith, ends-box n listed l b x, two-beyond (has s) l b x (omega arith));
+      single = λ x u. omega (arith, ends-box n listed l b x, at-most-one (has s) l b x (omega arith));
+    }
+
+-- a row beside others
 module _ (n : ℕ) {s : List Span} (listed : Listed n s) (l b g m q : ℕ) (e : line q ≡ line (reach s l m b)) where
   abbrev S : Set
   S = has s
 
-  reached : q ≡ max m (top (S l) b)
-  reached = ap (λ (z : Line). z .0) e ∙ reach-top s l m b
-
   -- the row's greatest line does not lie beyond the greater one
   pub row-lesser : q ≤ g → WithRow s l b (tops g m) (tops g q)
   row-lesser h a f G =
-      let r = reached in
+      let r = reached s l m b q e in
       record {
         low = omega (arith, G .low);
         ordered = h;
@@ -152,9 +175,9 @@ module _ (n : ℕ) {s : List Span} (listed : Listed n s) (l b g m q : ℕ) (e : 
   pub row-greater : (p : ℕ) → line p ≡ line (reach s l g (q - 1)) → g < q → WithRow s l b (tops g m) (tops q p)
   row-greater p e2 h a f G =
       let o = G .ordered in
-      let r = reached in
+      let r = reached s l m b q e in
       let here : q ≡ top (S l) b = omega arith in
-      let next : p ≡ max g (top (S l) (top (S l) b - 1)) = ap (λ (z : Line). z .0) e2 ∙ reach-top s l g (q - 1) ∙ ap (λ z. max g (top (S l) (z - 1))) here in
+      let next : p ≡ max g (top (S l) (top (S l) b - 1)) = reached s l g (q - 1) p e2 ∙ ap (λ z. max g (top (S l) (z - 1))) here in
       let below = top-le (S l) (top (S l) b - 1) in
       record {
         low = omega (arith, G .low);

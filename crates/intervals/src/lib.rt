@@ -7,13 +7,11 @@ pub mod reduce;
 pub mod sweep;
 pub mod table;
 
-use grid::limits::LINES;
+use grid::limits::SIDE;
 use grid::lines::Interval;
 
-pub const CELLS: usize = LINES * LINES;
-
-// One byte for each pair of lines: 1 where the interval from the first to the second is in the set.
-pub type Table = [u8; CELLS];
+// A word for each left line: bit r - 1 is on where the interval from that line to line r is in the set. No interval begins at the last line.
+pub type Table = [u64; SIDE];
 
 pub enum Found {
     Nothing,

@@ -6,7 +6,6 @@ ghost use Rattle.intervals.specs.Table.{setOf, tableOf, Tabled};
 ghost use Rattle.intervals.specs.Reach.{reach};
 use crate::Table;
 use crate::table;
-use grid::limits::LINES;
 use grid::lines::Interval;
 use grid::lines::Line;
 
@@ -15,20 +14,10 @@ pub fn furthest(t: &Table, last: Line, left: Line, from: Line, to: Line) -> Line
     requires { ⌜ Tabled (last .0) (now t) ⌝ }
     ensures { λ r. ⌜ r ≡ line (reach (setOf (last .0) (now (t .entry))) (left .0) (from .0) (to .0)) ⌝ }
 {
-    if last.0 <= left.0 {
-        return from;
-    }
-    // The row's bytes up to the last line.
     let asked = Interval::up_to(last).meet(Interval { left, right: to });
-    let row = left.0 * LINES;
-    let mut r = asked.right.0;
-    while from.0 < r {
-        if t[row + r] == 1 {
-            return Line(r);
-        }
-        r -= 1;
-    }
-    from
+    // One past a bit is the right line that it stands for.
+    let end = words::last_on(table::row(t, last, left), asked.right.0);
+    if from.0 < end { Line(end) } else { from }
 }
 
 // One pass over left lines, with the last outermost interval so far: the next one reaches beyond it, and their meet takes its place.

@@ -79,25 +79,6 @@ module _ (S : Set) where
       let j = sum-find (λ r. bit (S (i .0) r)) (suc r0) (suc r1) (i .3) in
       (i .0, j .0, true-bit (S (i .0) (j .0)) (j .3), omega arith)
 
-  -- two members in different rows are parted by a row, two on different lines by a line
-  K-two-rows : (l r k s l0 l1 r0 r1 : ℕ) → S l r ≡ true → S k s ≡ true → InBox l r l0 l1 r0 r1 → InBox k s l0 l1 r0 r1 → l < k
-      → 2 ≤ K S l0 l1 r0 r1
-  K-two-rows l r k s l0 l1 r0 r1 m n i j h =
-      omega (arith, K-rows l0 k l1 r0 r1 (omega arith) (omega arith), K-has l r l0 k r0 r1 m (omega arith), K-has k s k l1 r0 r1 n (omega arith))
-
-  K-two-lines : (l r k s l0 l1 r0 r1 : ℕ) → S l r ≡ true → S k s ≡ true → InBox l r l0 l1 r0 r1 → InBox k s l0 l1 r0 r1 → r < s
-      → 2 ≤ K S l0 l1 r0 r1
-  K-two-lines l r k s l0 l1 r0 r1 m n i j h =
-      omega (arith, K-lines l0 l1 r0 r r1 (omega arith) (omega arith), K-has l r l0 l1 r0 r m (omega arith), K-has k s l0 l1 r r1 n (omega arith))
-
-  pub K-two : (l r k s l0 l1 r0 r1 : ℕ) → S l r ≡ true → S k s ≡ true → InBox l r l0 l1 r0 r1 → InBox k s l0 l1 r0 r1
-      → ((l ≡ k) × (r ≡ s) → ⊥) → 2 ≤ K S l0 l1 r0 r1
-  K-two l r k s l0 l1 r0 r1 m n i j apart =
-      by-cases (decLt l k) (K-two-rows l r k s l0 l1 r0 r1 m n i j)
-      (λ u. by-cases (decLt k l) (K-two-rows k s l r l0 l1 r0 r1 n m j i)
-      (λ v. by-cases (decLt r s) (K-two-lines l r k s l0 l1 r0 r1 m n i j)
-      (λ w. by-cases (decLt s r) (K-two-lines k s l r l0 l1 r0 r1 n m j i) (λ z. absurd (apart (omega arith))))))
-
 pub K-same : (S T : Set) (l0 l1 r0 r1 : ℕ) → ((l r : ℕ) → InBox l r l0 l1 r0 r1 → S l r ≡ T l r) → K S l0 l1 r0 r1 ≡ K T l0 l1 r0 r1
 unfolding K row
 K-same S T l0 l1 r0 r1 each =

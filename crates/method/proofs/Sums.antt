@@ -62,10 +62,6 @@ sum-part g a c d b low high =
 pub sum-term : (g : ℕ → ℕ) (a i b : ℕ) → a ≤ i → i < b → g i ≤ sum g a b
 sum-term g a i b low high = omega (arith, sum-one g i, sum-part g a i (suc i) b low high)
 
-pub sum-two : (g : ℕ → ℕ) (a i j b : ℕ) → (a ≤ i) × (i < j) × (j < b) → g i + g j ≤ sum g a b
-sum-two g a i j b h =
-    omega (arith, sum-split g a j b (omega arith) (omega arith), sum-term g a i j (omega arith) (omega arith), sum-term g j j b (omega arith) (omega arith))
-
 pub sum-zero : (g : ℕ → ℕ) (a b : ℕ) → sum g a b ≡ 0 ↔ ((i : ℕ) → a ≤ i → i < b → g i ≡ 0)
 sum-zero g a b =
     (λ z i u v. omega (arith, sum-term g a i b u v), λ each. omega (arith, sum-zeros, sum-same g (λ _. 0) a b each))

@@ -1,11 +1,14 @@
 // For the benchmark alone, and not in the library: final sets of an area's starting set by themselves, so many that the clock can tell.
 ghost use mathlib.Core.Path.{_≡_};
+ghost use Prim.Native.Nat.{_≤_};
 ghost use lib.ListN.{length};
 ghost use Rattle.method.specs.Final.{final};
-ghost use Rattle.grid.specs.Code.{Sized, areaIn};
+ghost use Rattle.grid.specs.Limits.{side};
 ghost use Rattle.intervals.specs.Table.{setOf, tableOf, Tabled};
 ghost use Rattle.cover.specs.Slices.{starting};
+ghost use Rattle.cover.specs.Code.{Columned, between};
 ghost use Rattle.timed.specs.Timed.{FinalSize};
+use columns::checks::columns_checked;
 use cover::entry::sizes_checked;
 use cover::slices::last_line;
 use cover::slices::starting;
@@ -29,19 +32,19 @@ fn repeat(set: &Table, work: &mut Table, last: Line, search: Search, more: u64)
     }
 }
 
-// How many intervals the final set has, found by either search.
-fn final_size(size: Size, raster: &[u8], search: Search, more: u64) -> u64
-    requires { ⌜ Sized size (now raster) ⌝ }
-    ensures { λ r. ⌜ r ≡ length (final (size .width) (starting (areaIn size (now (raster .entry))) (size .width) (size .height))) ⌝ }
+// How many intervals the final set has, of the area between bottoms and ends, found by either search.
+fn final_size(size: Size, bottoms: &[u8], ends: &[u8], search: Search, more: u64) -> u64
+    requires { ⌜ Columned (size .width) (now bottoms) (now ends) × (size .height ≤ side) ⌝ }
+    ensures { λ r. ⌜ r ≡ length (final (size .width) (starting (between (size .width) (now (bottoms .entry)) (now (ends .entry))) (size .width) (size .height))) ⌝ }
 {
     let mut set = table::empty();
     let mut work = table::empty();
-    starting(size, raster, &mut set);
+    starting(size, bottoms, ends, &mut set);
     repeat(&set, &mut work, last_line(size), search, more);
     table::size(&work, last_line(size)) as u64
 }
 
-// By the plain search where `plain` is 1. A size or a length out of its limits gives 0.
+// By the plain search where `plain` is 1. What the cover would refuse gives 0.
 #[no_mangle]
 pub extern "C" fn timed_final_sets(
     width: u64,
@@ -67,8 +70,14 @@ pub extern "C" fn timed_final_sets(
         width: width as usize,
         height: height as usize,
     };
-    if plain == 1 {
-        return final_size(size, raster, Search::Plain, more);
+    let mut bottoms = [0u8; limits::SIDE];
+    let mut ends = [0u8; limits::SIDE];
+    let bytes = columns_checked(size, raster, &mut bottoms, &mut ends);
+    if bytes.number != answers::DONE {
+        return 0;
     }
-    final_size(size, raster, Search::Swept, more)
+    if plain == 1 {
+        return final_size(size, &bottoms, &ends, Search::Plain, more);
+    }
+    final_size(size, &bottoms, &ends, Search::Swept, more)
 }

@@ -7,10 +7,10 @@ use Rattle.finals.proofs.merge_chosen.Statement.{statement}
 use Rattle.finals.proofs.merge_chosen.Tie as tie
 
 abbrev Inv-loop : tie.InvT-loop
-Inv-loop t₀ last order seed cells number₀ reductions₀ t number reductions = Tabled (last .0) t
+Inv-loop t₀ last order seed intervals number₀ reductions₀ t number reductions = Tabled (last .0) t
 
 abbrev μ-loop : tie.MeasureT-loop
-μ-loop t₀ last order seed cells number₀ reductions₀ t number reductions = cells - reductions
+μ-loop t₀ last order seed intervals number₀ reductions₀ t number reductions = intervals - reductions
 
 pub merge-chosen-spec : {M : Type 1} → statement M
 merge-chosen-spec =
@@ -18,8 +18,8 @@ merge-chosen-spec =
     (tie.spec
     Inv-loop
     μ-loop
-    (λ c κs. c .pre .fits)
-    (λ c. c .before .pre)
+    (λ c κs. c .before .pre)
+    (λ c. c .before .before .pre)
     (λ c κs. search needs)
     (λ c κs. search needs)
     (λ c. search needs)

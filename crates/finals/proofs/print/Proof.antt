@@ -1,17 +1,15 @@
 -- `print` is safe and ends: the table stays what it is.
-use mathlib.Core.Path.{_≡_}
-use Prim.Native.Nat.{_≤_, _-_}
-use Rattle.intervals.specs.Table.{cellsTo}
-use borrow.Author.Needs.{needs}
+use Prim.Native.Nat.{_-_, _≤_}
 use native.Mathlib.Omega.{arith}
+use borrow.Author.Needs.{needs}
 use Rattle.finals.proofs.print.Statement.{statement}
 use Rattle.finals.proofs.print.Tie as tie
 
 abbrev Inv-loop : tie.InvT-loop
-Inv-loop t last k₀ k-end k = (k ≤ k-end) × (k-end ≡ cellsTo (last .0))
+Inv-loop t last l₀ l-end l = l ≤ l-end
 
 abbrev μ-loop : tie.MeasureT-loop
-μ-loop t last k₀ k-end k = k-end - k
+μ-loop t last l₀ l-end l = l-end - l
 
 pub print-spec : {M : Type 1} → statement M
 print-spec =
@@ -19,12 +17,9 @@ print-spec =
     (tie.spec
     Inv-loop
     μ-loop
-    (λ c κs. c .pre .fits)
-    (λ c. (omega arith, c .cells-to .ensures))
-    (λ c κs. c .before .before .before .pre)
-    (λ c κs. search needs)
-    (λ c κs. search needs)
-    (λ c. let f = c .before .before .before .before .before .pre .fits in omega arith)
     (λ c. omega arith)
-    (λ c. (omega arith, omega arith))
+    (λ c κs. c .before .before .pre)
+    (λ c. omega arith)
+    (λ c. omega arith)
+    (λ c. omega arith)
     (λ c. search needs))

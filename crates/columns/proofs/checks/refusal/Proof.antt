@@ -1,26 +1,14 @@
 -- `refusal` meets its contract: the two checks asked in turn are the chain.
-use mathlib.Core.Path.{_≡_, refl, ap, _∙_}
+use mathlib.Core.Path.{_∙_}
 use mathlib.Core.List.{[], _∷_}
-use mathlib.Core.Option.{Option, none, some}
 use borrow.Author.Needs.{needs}
-use Prim.Native.Nat.{ℕ}
-use Rattle.grid.specs.Squares.{Square}
-use Rattle.grid.specs.Answers.{checkAt, badByte, brokenColumn}
-use Rattle.grid.specs.Code.{areaIn, placeOf, squareIn}
+use Rattle.grid.specs.Answers.{badByte, brokenColumn}
+use Rattle.grid.specs.Code.{areaIn}
 use Rattle.grid.specs.Raster.{badSquare, brokenSquare}
-use Rattle.grid.specs.declared.raster.Place.{Place}
-use Rattle.grid.proofs.Chain.{asked, in-turn, checkAt-plain}
+use Rattle.grid.proofs.Chain.{asked, in-turn, found-check, checkAt-plain}
 use Rattle.columns.specs.Columns.{rasterChecks}
 use Rattle.columns.proofs.checks.refusal.Statement.{statement}
 use Rattle.columns.proofs.checks.refusal.Tie as tie
-
--- what was found, as a check
-found-check : (n : ℕ) (o : Option Square) {p : Place} → p ≡ placeOf o → checkAt (squareIn p) n ≡ checkAt o n
-found-check n o e = ap (λ (q : Place). checkAt (squareIn q) n) e ∙ ap (λ z. checkAt z n) (there o)
-  where
-    there : (z : Option Square) → squareIn (placeOf z) ≡ z
-    there none = refl
-    there (some s) = refl
 
 returns : tie.Need-returns
 returns c =

@@ -1,14 +1,16 @@
 -- `cover_area` meets its contract: the pass takes bottoms and ends, and they are the columns'.
 use native.Mathlib.Omega.{arith}
 use borrow.Author.Needs.{needs}
-use Rattle.columns.proofs.Filling.{filled-reached}
+use Rattle.grid.specs.Limits.{side}
+use Rattle.columns.proofs.Filling.{zeros-bare, filled-reached}
 use Rattle.cover.proofs.entry.cover_area.Statement.{statement}
 use Rattle.cover.proofs.entry.cover_area.Tie as tie
 
 columns-checked-requires : tie.Need-columns-checked-requires
 columns-checked-requires c κs =
     let z = c .before .before .before .before .before .pre .0 .0 in
-    (z, (omega (arith, z .narrow), omega (arith, z .narrow)))
+    let bare = zeros-bare side _ (z .narrow) in
+    (z, ((omega (arith, z .narrow), omega (arith, z .narrow)), (bare, bare)))
 
 cover-columns-requires : tie.Need-cover-columns-requires
 cover-columns-requires c κs =

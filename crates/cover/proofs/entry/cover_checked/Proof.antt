@@ -3,10 +3,11 @@ use mathlib.Core.Path.{sym, ap, _∙_}
 use native.Mathlib.Omega.{arith}
 use borrow.Author.Needs.{needs}
 use lib.ListN.{length}
+use Rattle.grid.specs.Limits.{side}
 use Rattle.grid.specs.Code.{Sized}
 use Rattle.grid.specs.declared.answers.Answer.{Answer}
 use Rattle.grid.proofs.Chain.{chain-passed}
-use Rattle.columns.proofs.Filling.{filled-reached}
+use Rattle.columns.proofs.Filling.{zeros-bare, filled-reached}
 use Rattle.columns.proofs.Whole.{passed-unbroken}
 use Rattle.cover.proofs.Checks.{Passed, sizes-passed}
 use Rattle.cover.proofs.Refusals.{gives-first, gives-second, gives-worked}
@@ -31,7 +32,10 @@ returns c =
     gives-first _ _ _ _ _ _ (t .before .before .sizes-checked .ensures) (t .if1 .taken) (c .refused .ensures)
 
 columns-checked-requires : tie.Need-columns-checked-requires
-columns-checked-requires c κs = let z = sized (c .before .before) in (z, (omega (arith, z .narrow), omega (arith, z .narrow)))
+columns-checked-requires c κs =
+    let z = sized (c .before .before) in
+    let bare = zeros-bare side _ (z .narrow) in
+    (z, ((omega (arith, z .narrow), omega (arith, z .narrow)), (bare, bare)))
 
 returns-2 : tie.Need-returns-2
 returns-2 c =

@@ -1,70 +1,73 @@
--- `least` meets its contract: the first cell that is on and holds the column has the first interval of the set that holds it.
+-- `least` meets its contract: from no line passed does an interval hold the column, and of the first row that has one the first end beyond it is the least.
 use mathlib.Core.Path.{_≡_, sym, ap, _∙_}
-use mathlib.Core.Bool.{Bool}
-use mathlib.Core.List.{List}
-use mathlib.Core.Option.{Option, Option·map}
-use Prim.Native.Nat.{ℕ, _-_, _≤_}
+use Prim.Native.Nat.{_-_}
 use native.Mathlib.Omega.{arith}
 use borrow.Author.Needs.{needs}
-use Rattle.lists.specs.Lists.{first, upTo}
-use Rattle.lists.proofs.Passes.{upFrom, up-all, up-here, up-on, up-end}
 use Rattle.method.specs.Strike.{least}
+use Rattle.grid.specs.Lines.{interval}
+use Rattle.grid.proofs.Edges.{number}
 use Rattle.intervals.specs.declared.Found.the-variants.{At}
-use Rattle.intervals.specs.Table.{spanAt, cellsTo, setOf, Tabled, foundOf}
+use Rattle.intervals.specs.Table.{setOf, foundOf}
+use Rattle.intervals.specs.Counts.{begunBefore}
 use Rattle.intervals.proofs.TableLaws.{set-listed}
-use Rattle.intervals.proofs.CellOrder.{holdsAt, least-cells}
+use Rattle.intervals.proofs.ColumnRows.{leastFrom, least-start, least-here, least-on, least-over}
 use Rattle.intervals.proofs.column.least.Statement.{statement}
 use Rattle.intervals.proofs.column.least.Tie as tie
 
--- no cell before k passes
-abbrev Ahead : (ℕ → Bool) → ℕ → ℕ → Type 0
-Ahead p m k = first p (upTo m) ≡ upFrom p m k
-
 abbrev Inv-loop : tie.InvT-loop
-Inv-loop t last column k₀ k-end k =
-    (k ≤ k-end) × (k-end ≡ cellsTo (last .0)) × Ahead (holdsAt (setOf (last .0) t) (column .0)) (cellsTo (last .0)) k
+Inv-loop t last edge l₀ l-end l = least (edge .0) (setOf (last .0) t) ≡ leastFrom (last .0) (setOf (last .0) t) (edge .0) l
 
 abbrev μ-loop : tie.MeasureT-loop
-μ-loop t last column k₀ k-end k = k-end - k
+μ-loop t last edge l₀ l-end l = l-end - l
 
--- the cell found, or none, is the interval found
-found : {n : ℕ} {t : List ℕ} → Tabled n t → (c : ℕ) {o : Option ℕ} → first (holdsAt (setOf n t) c) (upTo (cellsTo n)) ≡ o
-    → foundOf (Option·map spanAt o) ≡ foundOf (least c (setOf n t))
-found {n} {t} T c e = ap foundOf (sym (least-cells n (T .fits) (set-listed n t) c ∙ ap (Option·map spanAt) e))
+-- the column's left line, and the line before which its intervals begin
+edge : (c : tie.After-left-line Inv-loop μ-loop) → c .left-line .result .0 ≡ c .before .args .column .0
+edge c = ap number (c .left-line .ensures)
 
--- the cells' test at the loop
-abbrev test : tie.At-loop Inv-loop μ-loop → ℕ → Bool
-test at = let a = at .before .before .args in holdsAt (setOf (a .last .0) (a .t .now)) (a .column .0)
-
-abbrev end : tie.At-loop Inv-loop μ-loop → ℕ
-end at = cellsTo (at .before .before .args .last .0)
+end : (c : tie.After-begun-before Inv-loop μ-loop) → c .begun-before .result .0 ≡ begunBefore (c .before .before .args .last .0) (c .before .left-line .result .0)
+end c = ap number (c .begun-before .ensures) ∙ ap (begunBefore (c .before .before .args .last .0)) (sym (edge (c .before)))
 
 loop-holds : tie.Need-loop-holds Inv-loop μ-loop
 loop-holds c =
-    let a = c .before .args in
-    (omega arith, c .cells-to .ensures, up-all (holdsAt (setOf (a .last .0) (a .t .now)) (a .column .0)) (cellsTo (a .last .0)))
+    let s = c .before .before in
+    let n = s .args .last .0 in
+    let t = s .args .t .now in
+    least-start n (setOf n t) (c .before .left-line .result .0) (set-listed n t) (s .args .from .0) (s .pre .1)
 
 returns : tie.Need-returns Inv-loop μ-loop
 returns c =
-    let h = c .before .before in
-    let at = h .before .before in
-    ap At (c .interval-at .ensures)
-    ∙ found (at .before .before .pre) (at .before .before .args .column .0)
-    (at .loop .inv .2 ∙ up-here (test at) (end at) (at .loop .k) (omega arith) (sym (h .holds-at .ensures) ∙ c .before .if1 .taken))
+    let r = c .before .before in
+    let at = r .before .before in
+    let e = at .before .before in
+    let a = e .before .args in
+    let n = a .last .0 in
+    let s = setOf n (a .t .now) in
+    let x = e .left-line .result .0 in
+    let q = ap number (r .next-end .ensures) in
+    ap (λ y. At (interval (at .loop .l) y)) q
+    ∙ ap foundOf
+    (sym (at .loop .inv ∙ least-here n s x (at .loop .l) (omega (arith, end (at .before))) (omega (arith, q))) ∙ ap (λ y. least y s) (edge e))
 
 loop-again : tie.Need-loop-again Inv-loop μ-loop
 loop-again c =
-    let h = c .before in
-    let at = h .before .before in (
-      omega arith,
-      at .loop .inv .1,
-      at .loop .inv .2 ∙ up-on (test at) (end at) (at .loop .k) (omega arith) (sym (h .holds-at .ensures) ∙ c .if1 .left),
-    )
+    let r = c .before .before in
+    let at = r .before .before in
+    let e = at .before .before in
+    let a = e .before .args in
+    let n = a .last .0 in
+    let s = setOf n (a .t .now) in
+    let x = e .left-line .result .0 in
+    at .loop .inv ∙ least-on n s x (at .loop .l) (omega (arith, end (at .before))) (omega (arith, ap number (r .next-end .ensures)))
 
 returns-2 : tie.Need-returns-2 Inv-loop μ-loop
 returns-2 c =
     let at = c .before in
-    found (at .before .before .pre) (at .before .before .args .column .0) (at .loop .inv .2 ∙ up-end (test at) (end at) (at .loop .k) (omega arith))
+    let e = at .before .before in
+    let a = e .before .args in
+    let n = a .last .0 in
+    let s = setOf n (a .t .now) in
+    let x = e .left-line .result .0 in
+    ap foundOf (sym (at .loop .inv ∙ least-over n s x (at .loop .l) (omega (arith, end (at .before)))) ∙ ap (λ y. least y s) (edge e))
 
 pub least-spec : {M : Type 1} → statement M
 least-spec =
@@ -72,10 +75,10 @@ least-spec =
     (tie.spec
     Inv-loop
     μ-loop
-    (λ c κs. c .pre .fits)
-    loop-holds
-    (λ c κs. c .before .before .before .pre)
     (λ c κs. search needs)
+    (λ c κs. search needs)
+    loop-holds
+    (λ c κs. c .before .before .before .before .pre .0)
     returns
     (λ c. omega arith)
     (λ c. omega arith)

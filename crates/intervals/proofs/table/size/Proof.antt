@@ -1,50 +1,62 @@
--- `size` meets its contract: the cells that are on are the set's intervals.
-use mathlib.Core.Path.{_≡_, sym, ap, _∙_}
-use mathlib.Core.Bool.{Bool, true, false}
+-- `size` meets its contract: after the rows before line l the count is that of their intervals, and every interval begins before the last line.
+use mathlib.Core.Path.{_≡_, sym, _∙_}
+use mathlib.Core.Bool.{Bool, true}
 use Prim.Native.Nat.{_+_, _-_, _≤_}
 use native.Mathlib.Omega.{arith}
-use mir.Val.{boolByte}
-use Rattle.lists.proofs.Passes.{Counted, counted-none, counted-all, counted-next}
-use Rattle.method.proofs.Sets.{bit}
-use Rattle.intervals.specs.Table.{cellsTo, onAt, setOf}
-use Rattle.intervals.proofs.TableLaws.{cast-bit, set-listed}
-use Rattle.intervals.proofs.CellOrder.{length-cells}
+use borrow.Author.Tests.{lt-ltb}
+use Rattle.lists.proofs.Counting.{length-count}
+use Rattle.method.specs.Intervals.{Interval as Span}
+use Rattle.method.proofs.Listed.{in-member, listed-lines}
+use Rattle.intervals.specs.Table.{setOf}
+use Rattle.intervals.proofs.TableLaws.{set-listed}
+use Rattle.intervals.proofs.SetSizes.{set-bound}
+use Rattle.intervals.proofs.RowCounts.{before, before-none, before-bound, before-all, before-next}
 use Rattle.intervals.proofs.table.size.Statement.{statement}
 use Rattle.intervals.proofs.table.size.Tie as tie
 
+abbrev each : Span → Bool
+each i = true
+
 abbrev Inv-loop : tie.InvT-loop
-Inv-loop t last n₀ k₀ k-end n k =
-    (k ≤ k-end) × (k-end ≡ cellsTo (last .0)) × (n ≤ k) × Counted (onAt (setOf (last .0) t)) (cellsTo (last .0)) n k
+Inv-loop t last n₀ l₀ l-end n l = (l ≤ l-end) × (n ≡ before (setOf (last .0) t) each l)
 
 abbrev μ-loop : tie.MeasureT-loop
-μ-loop t last n₀ k₀ k-end n k = k-end - k
+μ-loop t last n₀ l₀ l-end n l = l-end - l
 
--- a cell counts for one at most
-one : (b : Bool) → boolByte b ≤ 1
-one true = omega arith
-one false = omega arith
-
-loop-holds : tie.Need-loop-holds Inv-loop μ-loop
-loop-holds c =
-    let a = c .before .args in
-    (omega arith, c .cells-to .ensures, omega arith, counted-none (onAt (setOf (a .last .0) (a .t .now))) (cellsTo (a .last .0)))
-
-loop-again : tie.Need-loop-again Inv-loop μ-loop
-loop-again c =
+-- one row more
+more : (c : tie.After-ends-beyond Inv-loop μ-loop) → let at = c .before .before in let a = at .before .args in
+    at .loop .n + c .ends-beyond .result ≡ before (setOf (a .last .0) (a .t .now)) each (at .loop .l + 1)
+more c =
     let at = c .before .before in
-    let a = at .before .before .args in
-    let i = at .loop .inv in
-    let on = onAt (setOf (a .last .0) (a .t .now)) in
-    let told = cast-bit (c .is-on .result) ∙ ap bit (c .is-on .ensures) in
-    (omega arith, i .1, omega (arith, one (c .is-on .result)), counted-next on (cellsTo (a .last .0)) (at .loop .n) (at .loop .k) (omega arith) (i .3) _ (ap (at .loop .n +_) told))
+    let a = at .before .args in
+    let n = a .last .0 in
+    let S = setOf n (a .t .now) in
+    let L = set-listed n (a .t .now) in
+    let l = at .loop .l in
+    omega (
+      arith,
+      at .loop .inv .1,
+      c .ends-beyond .ensures,
+      before-next S each n L l l (λ i m e. sym (lt-ltb l (i .right) (omega (arith, listed-lines n S L i (in-member m))))),
+    )
+
+add-n : tie.Need-add-n Inv-loop μ-loop
+add-n c =
+    let at = c .before .before in
+    let s = at .before in
+    let n = s .args .last .0 in
+    omega (arith, more c, before-bound (setOf n (s .args .t .now)) each (at .loop .l + 1), set-bound n (s .args .t .now) (s .pre .fits))
 
 returns : tie.Need-returns Inv-loop μ-loop
 returns c =
     let at = c .before in
-    let s = at .before .before in
-    let n = s .args .last .0 in
-    counted-all (onAt (setOf n (s .args .t .now))) (cellsTo n) (at .loop .n) (at .loop .k) (omega arith) (at .loop .inv .3)
-    ∙ sym (length-cells n (s .pre .fits) (set-listed n (s .args .t .now)))
+    let a = at .before .args in
+    let n = a .last .0 in
+    let S = setOf n (a .t .now) in
+    let L = set-listed n (a .t .now) in
+    at .loop .inv .1
+    ∙ before-all S each (at .loop .l) (λ i m t. omega (arith, listed-lines n S L i (in-member m)))
+    ∙ sym (length-count S)
 
 pub size-spec : {M : Type 1} → statement M
 size-spec =
@@ -52,12 +64,10 @@ size-spec =
     (tie.spec
     Inv-loop
     μ-loop
-    (λ c κs. c .pre .fits)
-    loop-holds
-    (λ c κs. c .before .before .before .pre)
-    (λ c. tt)
-    (λ c. let f = c .before .before .before .before .pre .fits in omega (arith, one (c .is-on .result)))
-    (λ c. let f = c .before .before .before .before .pre .fits in omega arith)
+    (λ c. (omega arith, sym (before-none (setOf (c .args .last .0) (c .args .t .now)) each)))
+    (λ c κs. c .before .before .pre)
+    add-n
     (λ c. omega arith)
-    loop-again
+    (λ c. omega arith)
+    (λ c. (omega arith, more c))
     returns)

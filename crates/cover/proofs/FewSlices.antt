@@ -36,9 +36,9 @@ below a c zero = false
 below a c (suc y) = a c y
 
 -- the same of the column to the left of a line: there is none to the left of line 0
-abbrev beside : Area → ℕ → ℕ → Bool
-beside a zero y = false
-beside a (suc c) y = below a c y
+abbrev underLeft : Area → ℕ → ℕ → Bool
+underLeft a zero y = false
+underLeft a (suc c) y = below a c y
 
 -- three keys for each column: copper begins in it, has ended to the left of a slice, to the right of one
 abbrev slot : Option ℕ → Bool → Interval → ℕ
@@ -46,14 +46,14 @@ slot (some c) b i = 3 * c
 slot none true i = 3 * (i .left - 1) + 1
 slot none false i = 3 * i .right + 2
 
-ends-left : (a : Area) (z l : ℕ) → beside a l (suc z) ≡ false → endsLeft a z l ≡ true
+ends-left : (a : Area) (z l : ℕ) → underLeft a l (suc z) ≡ false → endsLeft a z l ≡ true
 unfolding endsLeft
 ends-left a z zero e = refl
 ends-left a z (suc c) e = ap not e
 
 -- where nothing is new the row below shows the interval
 shown-below : (a : Area) (i : Interval) (y : ℕ) → i .left < i .right → ((c : ℕ) → i .left ≤ c → c < i .right → below a c y ≡ true)
-    → beside a (i .left) y ≡ false → below a (i .right) y ≡ false → (z : ℕ) × (y ≡ suc z) × (slice a z i ≡ true)
+    → underLeft a (i .left) y ≡ false → below a (i .right) y ≡ false → (z : ℕ) × (y ≡ suc z) × (slice a z i ≡ true)
 shown-below a i zero p along l r = absurd (never (along (i .left) (omega arith) p) refl)
 shown-below a i (suc z) p along l r = (z, refl, lines-slice a z i p (copper-along a z i along) (ends-left a z (i .left) l) r)
 
@@ -86,7 +86,7 @@ module _ (a : Area) (w h : ℕ) (narrow : (c y : ℕ) → a c y ≡ true → c <
   lowest i = orEnd 0 (lowestShown a h i)
 
   abbrev key : Interval → ℕ
-  key i = slot (first (λ c. not (below a c (lowest i))) (from (i .left) (i .right - i .left))) (beside a (i .left) (lowest i)) i
+  key i = slot (first (λ c. not (below a c (lowest i))) (from (i .left) (i .right - i .left))) (underLeft a (i .left) (lowest i)) i
 
   abbrev Begins : Interval → Type 0
   Begins i = (c : ℕ) × (key i ≡ 3 * c) × (holds c i ≡ true) × (a c (lowest i) ≡ true) × (below a c (lowest i) ≡ false)
@@ -111,7 +111,7 @@ module _ (a : Area) (w h : ℕ) (narrow : (c y : ℕ) → a c y ≡ true → c <
         let e : lowest i ≡ r .0 = ap (orEnd 0) (r .1) in
         first-from (λ y. slice a y i) 0 h (r .1) z (omega arith) (omega arith)
 
-    left-new : (l : ℕ) → i .left ≡ l → beside a l (lowest i) ≡ true → key i ≡ 3 * (i .left - 1) + 1 → EndedLeft i
+    left-new : (l : ℕ) → i .left ≡ l → underLeft a l (lowest i) ≡ true → key i ≡ 3 * (i .left - 1) + 1 → EndedLeft i
     left-new zero e b k = absurd (never b refl)
     left-new (suc c) e b k = (c, omega arith, e, slice-left a (lowest i) i shows c (sym e), b)
 
@@ -121,13 +121,13 @@ module _ (a : Area) (w h : ℕ) (narrow : (c y : ℕ) → a c y ≡ true → c <
         ocase (first (λ c. not (below a c (lowest i))) (from (i .left) (i .right - i .left)))
         (λ e.
         let along : (c : ℕ) → i .left ≤ c → c < i .right → below a c (lowest i) ≡ true = λ c l r. not-false (below a c (lowest i)) (first-missed (λ x. not (below a x (lowest i))) (i .left) (i .right - i .left) e c l (omega arith)) in
-        bcase (beside a (i .left) (lowest i))
-        (λ b. inr (inl (left-new (i .left) refl b (ap (λ o. slot o (beside a (i .left) (lowest i)) i) e ∙ ap (λ x. slot none x i) b))))
+        bcase (underLeft a (i .left) (lowest i))
+        (λ b. inr (inl (left-new (i .left) refl b (ap (λ o. slot o (underLeft a (i .left) (lowest i)) i) e ∙ ap (λ x. slot none x i) b))))
         (λ b.
         inr
         (inr (
           i .right,
-          ap (λ o. slot o (beside a (i .left) (lowest i)) i) e ∙ ap (λ x. slot none x i) b,
+          ap (λ o. slot o (underLeft a (i .left) (lowest i)) i) e ∙ ap (λ x. slot none x i) b,
           refl,
           slice-right a (lowest i) i shows,
           bcase (below a (i .right) (lowest i)) (λ t. t)
@@ -138,7 +138,7 @@ module _ (a : Area) (w h : ℕ) (narrow : (c y : ℕ) → a c y ≡ true → c <
         let in-it = lines-hold c i (r .0) (omega arith) in
         inl (
           c,
-          ap (λ o. slot o (beside a (i .left) (lowest i)) i) e,
+          ap (λ o. slot o (underLeft a (i .left) (lowest i)) i) e,
           in-it,
           slice-copper a (lowest i) i shows c in-it,
           not-true (below a c (lowest i)) (r .2),

@@ -1,4 +1,6 @@
 // The check program: a job and a list, each from the file that an argument names, the verdict or the refusal to standard output.
+#![tactic(auto)]
+
 ghost use Rattle.std.specs.Prelude.{◌≤◌, length};
 
 mod answer;

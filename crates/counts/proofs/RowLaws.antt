@@ -1,7 +1,7 @@
 -- A set row by row, as the table's next ends give it: what a row has still to give, and which rows hold a column.
 -- `enter_row`, `leave_row` and what goes over all rows use it.
 use mathlib.Core.Path.{◌≡◌, refl, sym, ap, ap₂, ◌∙◌}
-use mathlib.Core.Bool.{Bool, true, ◌&&◌, and_true}
+use mathlib.Core.Bool.{Bool, true, ◌&&◌, and-true}
 use mathlib.Core.List.{List, [], ◌∷◌, ◌++◌, map}
 use mathlib.Core.Logic.{by_cases}
 use mathlib.Core.Option.{none, some}
@@ -175,7 +175,7 @@ module _ (n : ℕ) (s : List Span) (c : ℕ) where
       omega (arith, from_in (suc l) (c - l) m, holds-lines c (span l r) (and_right (member (span l r) s) (holds c (span l r)) t)))))
       (ap (λ k. keep g (from k (n - c))) f
       ∙ keep_same g (λ r. member (span l r) s) (from (c + 1) (n - c))
-      (λ r m. let w = from_in (c + 1) (n - c) m in rw (lines_hold c (span l r) h (omega arith)) (and_true (member (span l r) s)))))
+      (λ r m. let w = from_in (c + 1) (n - c) m in rw (lines_hold c (span l r) h (omega arith)) (and-true (member (span l r) s)))))
 
   pub hits_next : (l : ℕ) → l ≤ c → c < n → hits_from l ≡ row_beyond n s l c ++ hits_from (l + 1)
   hits_next l h b =

@@ -1,7 +1,7 @@
 -- A column struck from a set row by row, the counts with it: the rows before line l are struck, and what the others hold of the column is still to go.
 -- `strike_set` uses it.
 use mathlib.Core.Path.{◌≡◌, sym, ap, subst, ◌∙◌}
-use mathlib.Core.Bool.{false, not, ◌&&◌, and_true}
+use mathlib.Core.Bool.{false, not, ◌&&◌, and-true}
 use mathlib.Core.List.{List, ◌++◌}
 use Prim.Native.Nat.{ℕ, ◌+◌, ◌≤◌, ◌<◌}
 use native.Mathlib.Omega.{arith}
@@ -46,7 +46,7 @@ module _ (n : ℕ) (s : List Span) (c l : ℕ) where
   unfolding struck_to
   struck_row h r u v =
       member-select n (λ j. member j s && not (ltb j.left l && ltb c j.right)) (span l r)
-      ∙ rw (lines-proper (span l r) (omega arith), le-leb r n v, le-ltb l l (omega arith)) (and_true (member (span l r) s))
+      ∙ rw (lines-proper (span l r) (omega arith), le-leb r n v, le-ltb l l (omega arith)) (and-true (member (span l r) s))
 
 pub record Striking (n c : ℕ) (set₀ begins₀ ends₀ : List ℕ) (l : ℕ) (set begins ends : List ℕ) : Type 0 where
   pub early : l ≤ c + 1

@@ -1,4 +1,6 @@
 // A set's final set and its marks together, by the rule as it reads or from counts: the two ways have one contract.
+#![tactic(auto)]
+
 ghost use Rattle.std.specs.Prelude.{◌≡◌, ◌*◌, ◌≤◌, length};
 ghost use Rattle.method.specs.Final.{final};
 ghost use Rattle.method.specs.Strike.{marked};

@@ -25,14 +25,14 @@ use intervals::table::{begun_from, cut, next_end};
 use intervals::{Found, Table, table};
 
 // How far a pass over a list has come: how many it has read, and kept.
-#[derive(Drop)]
+#[derive(Clone, Copy)]
 pub struct Spot {
     pub read: usize,
     pub kept: usize,
 }
 
 // What a pass comes to: its end, with how many it has kept, or an interval that is struck.
-#[derive(Drop)]
+#[derive(Clone, Copy)]
 pub enum Next {
     Over(usize),
     Struck(Interval, Spot),
@@ -163,7 +163,7 @@ fn strike_set(
 }
 
 // How many of a list were kept, and the least line at which one begins that was not.
-#[derive(Drop)]
+#[derive(Clone, Copy)]
 pub struct Kept {
     pub count: usize,
     pub first: Line,
@@ -238,7 +238,7 @@ fn held_before(rises: &[u16], falls: &[u16], column: Column, line: Line) -> u16
 }
 
 // What is left after a mark: how many brackets, a line before which no interval begins, and where the next column is looked for, with what is held before it.
-#[derive(Drop)]
+#[derive(Clone, Copy)]
 pub struct Left {
     pub bags: usize,
     pub first: Line,

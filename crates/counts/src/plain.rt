@@ -12,7 +12,7 @@ use intervals::column::{held, least, strike};
 use intervals::final_set::{Search, final_copy, note_bracket};
 use intervals::{Found, Table, table};
 
-#[derive(Drop)]
+#[derive(Clone, Copy)]
 pub enum Once {
     Nowhere,
     In(Column),

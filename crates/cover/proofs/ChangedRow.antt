@@ -1,7 +1,7 @@
 -- One row's slices beside a change, found from the left: the next touched column, and from it the run of copper to both sides.
 -- Every slice that begins at or after `at` and has a touched column is that run or begins after it. `put_changed` uses it.
 use mathlib.Core.Path.{◌≡◌, sym, ap, ◌∙◌}
-use mathlib.Core.Bool.{Bool, true, false, not, cond, ◌&&◌, ◌||◌, and_true, and_false, or-true, or-false}
+use mathlib.Core.Bool.{Bool, true, false, not, cond, ◌&&◌, ◌||◌, and-true, and-false, or-true, or-false}
 use mathlib.Core.List.{List}
 use mathlib.Core.Logic.{by_cases}
 use mathlib.Core.Option.{some}
@@ -51,7 +51,7 @@ module _ (row touched : ℕ → Bool) (w : ℕ) (s : List Interval) where
   changed-none listed =
       listed
       ∙ select-same w (λ i. member i s) (λ i. member i s || (run i && ltb i.left 0))
-      (λ i l r. rw (le-ltb i.left 0 (omega arith), and_false (run i)) (sym (or-false (member i s))))
+      (λ i l r. rw (le-ltb i.left 0 (omega arith), and-false (run i)) (sym (or-false (member i s))))
 
   member-changed : (c : ℕ) (j : Interval) → j.left < j.right → j.right ≤ w → member j (changed_to c) ≡ (member j s || (run j && ltb j.left c))
   unfolding changed_to
@@ -206,7 +206,7 @@ changed_slices row touched change w n narrow told s =
     (any_same touched (beside change) (columns i)
     (λ k m.
     let b = from_in i.left (i.right - i.left) m in
-    told k ∙ rw (lt-ltb k n (omega arith), slice-copper (λ c y. row c) 0 i t k (lines_hold k i b.0 (omega arith))) (and_true (beside change k)))))
+    told k ∙ rw (lt-ltb k n (omega arith), slice-copper (λ c y. row c) 0 i t k (lines_hold k i b.0 (omega arith))) (and-true (beside change k)))))
     (λ t. rw t)))
 
 -- the table on the way

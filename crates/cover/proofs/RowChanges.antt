@@ -1,7 +1,7 @@
 -- The rows' words with what changes in them: a column is flipped in the row of its bottom and in the row of its end, twice in one row is nothing.
 -- By cases on the column and the row. `flip` and `changes` use it.
 use mathlib.Core.Path.{◌≡◌, refl, sym, ap, ◌∙◌}
-use mathlib.Core.Bool.{Bool, true, false, not, cond, ◌&&◌, and_false}
+use mathlib.Core.Bool.{Bool, true, false, not, cond, ◌&&◌, and-false}
 use mathlib.Core.List.{List}
 use mathlib.Core.Logic.{by_cases}
 use Prim.Native.Nat.{ℕ, ◌+◌, ◌<◌}
@@ -45,7 +45,7 @@ next-changed bottoms ends c rows rows' rows'' n m R F G y l k =
     (by_cases (ℕ_discrete k c)
     (λ q. rw (q, eq-eqb c c refl, le-ltb c c (omega arith), lt-ltb c (c + 1) (omega arith)) (in_turn_lem (eqb (get_or bottoms c 0) y) (eqb (get_or ends c 0) y)))
     (λ d.
-    rw (ne_eqb k c d, and_false (eqb (get_or bottoms c 0) y), and_false (eqb (get_or ends c 0) y))
+    rw (ne_eqb k c d, and-false (eqb (get_or bottoms c 0) y), and-false (eqb (get_or ends c 0) y))
     (ap (λ x. x && differ (eqb (get_or bottoms k 0) y) (eqb (get_or ends k 0) y)) (same-side d))))
   where
     in_turn_lem : (x z : Bool) → differ (z && true) (differ (x && true) false) ≡ differ x z

@@ -1,7 +1,7 @@
 -- The starting set from bottoms and ends: a slice with no change in it or beside it the row below shows too, so that each row adds its changed slices alone.
 -- What changes in a row is where columns begin and end; of an unbroken area's bottoms and ends the area itself comes back. `starting` and the cover use it.
 use mathlib.Core.Path.{◌≡◌, refl, sym, ap, ap₂, subst, ◌∙◌, fun_ext}
-use mathlib.Core.Bool.{Bool, true, false, not, ◌&&◌, ◌||◌, and_false, or-true}
+use mathlib.Core.Bool.{Bool, true, false, not, ◌&&◌, ◌||◌, and-false, or-true}
 use mathlib.Core.List.{List, []}
 use mathlib.Core.Logic.{by_cases}
 use Prim.Native.Nat.{ℕ, zero, suc, ◌+◌, ◌-◌, ◌≤◌, ◌<◌}
@@ -65,7 +65,7 @@ differ-twice false b = refl
 begins : (b e : ℕ) → b ≤ e → differ (eqb b 0) (eqb e 0) ≡ (leb b 0 && ltb 0 e)
 begins b e u =
     by_cases (ℕ_discrete e 0)
-    (λ q. let p : b ≡ 0 = omega arith in rw (eq-eqb e 0 q, eq-eqb b 0 p, le-ltb 0 e (omega arith), and_false (leb b 0)))
+    (λ q. let p : b ≡ 0 = omega arith in rw (eq-eqb e 0 q, eq-eqb b 0 p, le-ltb 0 e (omega arith), and-false (leb b 0)))
     (λ q.
     by_cases (ℕ_discrete b 0)
     (λ p. rw (ne_eqb e 0 q, eq-eqb b 0 p, lt-ltb 0 e (omega arith), le-leb b 0 (omega arith)))
@@ -76,8 +76,8 @@ goes y b e u =
     by_cases (ℕ_discrete e (suc y))
     (λ q.
     by_cases (ℕ_discrete b (suc y))
-    (λ p. rw (eq-eqb e (suc y) q, eq-eqb b (suc y) p, lt-leb b y (omega arith), le-ltb (suc y) e (omega arith), and_false (leb b (suc y))))
-    (λ p. rw (eq-eqb e (suc y) q, ne_eqb b (suc y) p, le-leb b y (omega arith), lt-ltb y e (omega arith), le-ltb (suc y) e (omega arith), and_false (leb b (suc y)))))
+    (λ p. rw (eq-eqb e (suc y) q, eq-eqb b (suc y) p, lt-leb b y (omega arith), le-ltb (suc y) e (omega arith), and-false (leb b (suc y))))
+    (λ p. rw (eq-eqb e (suc y) q, ne_eqb b (suc y) p, le-leb b y (omega arith), lt-ltb y e (omega arith), le-ltb (suc y) e (omega arith), and-false (leb b (suc y)))))
     (λ q.
     by_cases (ℕ_discrete b (suc y))
     (λ p. rw (ne_eqb e (suc y) q, eq-eqb b (suc y) p, lt-leb b y (omega arith), le-leb b (suc y) (omega arith), lt-ltb (suc y) e (omega arith)))

@@ -26,7 +26,7 @@ use intervals::final_set::Search;
 use intervals::{Table, table};
 
 #[repr(C)]
-#[derive(Drop)]
+#[derive(Clone, Copy)]
 pub struct Outcome {
     pub answer: u64,
     pub place_x: u64,

@@ -15,7 +15,7 @@ use grid::lines::{Column, Columns, Interval, Line, Row};
 use grid::rooms::put_bytes;
 use intervals::{Table, table};
 
-#[derive(Drop)]
+#[derive(Clone, Copy)]
 pub struct Flash {
     pub first: Column,
     pub last: Column,
@@ -24,7 +24,7 @@ pub struct Flash {
 }
 
 // How many flashes are written, and the sum of their areas.
-#[derive(Drop)]
+#[derive(Clone, Copy)]
 pub struct Flashed {
     pub count: usize,
     pub area: usize,

@@ -1,4 +1,6 @@
 // Reads sets of intervals and merges each from the left, from the right and in a random order: the reductions and the final set. A set is two lines: its name; its last line and its intervals. Of the second only the numbers count.
+#![tactic(auto)]
+
 ghost use Rattle.std.specs.Prelude.{◌≤◌, ◌<◌, length};
 ghost use Rattle.grid.specs.Limits.{side};
 ghost use Rattle.intervals.specs.Table.{Tabled};
@@ -11,7 +13,7 @@ use intervals::reduce::reduce;
 use intervals::{Found, Table, table};
 use libc::STDOUT_FILENO;
 
-#[derive(Drop)]
+#[derive(Clone, Copy)]
 struct Number {
     value: usize,
     next: usize,
@@ -114,7 +116,7 @@ fn print(t: &Table, last: Line)
 }
 
 // Merging in three orders (document 02, R-8). Each step reduces a minimal bracket; only their choice differs.
-#[derive(Drop)]
+#[derive(Clone, Copy)]
 enum Order {
     Left,
     Right,

@@ -1,4 +1,6 @@
 // The cover program: a job from standard input, its cover or its refusal to standard output.
+#![tactic(auto)]
+
 mod answer;
 
 use answer::answer;

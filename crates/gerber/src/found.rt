@@ -16,7 +16,7 @@ use text::signed::print_signed;
 use text::write::{NUMBER_DIGITS, print_number};
 
 // What was looked for, and the spot past it.
-#[derive(Drop)]
+#[derive(Clone, Copy)]
 pub enum Found {
     At(usize, usize),
     Nothing,

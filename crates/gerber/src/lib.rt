@@ -1,4 +1,6 @@
 // Gerber files for the film house: a cover written as one, and one read back.
+#![tactic(auto)]
+
 pub mod apertures;
 pub mod centres;
 pub mod found;

@@ -21,7 +21,7 @@ use grid::{answers, limits};
 use text::read::{Next, read_word};
 
 #[repr(C)]
-#[derive(Drop)]
+#[derive(Clone, Copy)]
 pub struct ReadOutcome {
     pub answer: u64,
     pub place_x: u64,
@@ -30,21 +30,21 @@ pub struct ReadOutcome {
 }
 
 // The spot past the head, or the number of a line that is not as ruled.
-#[derive(Drop)]
+#[derive(Clone, Copy)]
 pub enum Head {
     Past(usize),
     Bad(usize),
 }
 
 // How many apertures there are, and the spot past them.
-#[derive(Drop)]
+#[derive(Clone, Copy)]
 pub struct Sizes {
     pub count: usize,
     pub past: usize,
 }
 
 // How many flashes there are, or the number of a line that is not as ruled.
-#[derive(Drop)]
+#[derive(Clone, Copy)]
 pub enum Body {
     Flashes(usize),
     Bad(usize),

@@ -17,7 +17,7 @@ use text::read::{Next, read_word};
 
 // What the lines before have said, past the apertures: the number and the spot of the line that comes next, how many apertures
 // have been used, and the current one.
-#[derive(Drop)]
+#[derive(Clone, Copy)]
 pub struct Reached {
     pub line: usize,
     pub at: usize,
@@ -26,7 +26,7 @@ pub struct Reached {
 }
 
 // A flash, with a select before it or not; or the end; or the number of a line that is not as ruled.
-#[derive(Drop)]
+#[derive(Clone, Copy)]
 pub enum Turn {
     Flash(Flash, Reached),
     Over,

@@ -16,7 +16,7 @@ use grid::rooms::put_bytes;
 use grid::{answers, limits};
 
 #[repr(C)]
-#[derive(Drop)]
+#[derive(Clone, Copy)]
 pub struct WriteOutcome {
     pub answer: u64,
     pub place_x: u64,

@@ -1,5 +1,7 @@
 // The Gerber program: a job from standard input written as a Gerber file, or a Gerber file read back, to standard output.
 // Its words are the task, `write` or `read`, the version, the pitch, and the origin's two numbers.
+#![tactic(auto)]
+
 mod answer;
 mod print;
 mod words;

@@ -6,7 +6,7 @@ use text::read::{Number, read_number};
 use text::signed::{Integer, read_signed};
 
 // Version, pitch and origin, or which word is no number.
-#[derive(Drop)]
+#[derive(Clone, Copy)]
 pub enum Numbers {
     Given(u64, u64, i64, i64),
     Wrong(u64),

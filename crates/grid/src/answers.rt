@@ -5,7 +5,7 @@ ghost use Rattle.grid.specs.Code.{square_in};
 
 use crate::raster::Place;
 
-#[derive(Drop)]
+#[derive(Clone, Copy)]
 pub struct Answer {
     pub number: u64,
     pub x: u64,

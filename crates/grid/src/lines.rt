@@ -4,30 +4,30 @@ ghost use Rattle.grid.specs.Lines.{left_line, right_line, whole_to, length_of, m
 
 use crate::limits::SIDE;
 
-#[derive(Drop)]
+#[derive(Clone, Copy)]
 pub struct Column(pub usize);
 
-#[derive(Drop)]
+#[derive(Clone, Copy)]
 pub struct Row(pub usize);
 
-#[derive(Drop)]
+#[derive(Clone, Copy)]
 pub struct Line(pub usize);
 
-#[derive(Drop)]
+#[derive(Clone, Copy)]
 pub struct Interval {
     pub left: Line,
     pub right: Line,
 }
 
 // A square that is evidence.
-#[derive(Drop)]
+#[derive(Clone, Copy)]
 pub struct Mark {
     pub column: Column,
     pub row: Row,
 }
 
 // The columns of an interval: the first and the last.
-#[derive(Drop)]
+#[derive(Clone, Copy)]
 pub enum Columns {
     None,
     Run(Column, Column),

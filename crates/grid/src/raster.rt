@@ -8,28 +8,28 @@ ghost use Rattle.grid.specs.Code.{Sized, area_in, place_of, level_of, or_end, as
 use crate::limits::SIDE;
 use crate::lines::{Column, Row};
 
-#[derive(Drop)]
+#[derive(Clone, Copy)]
 pub struct Size {
     pub width: usize,
     pub height: usize,
 }
 
 // The numbers of a job, inside the program.
-#[derive(Drop)]
+#[derive(Clone, Copy)]
 pub struct Job {
     pub size: Size,
     pub allowance: usize,
 }
 
 // Where something was found.
-#[derive(Drop)]
+#[derive(Clone, Copy)]
 pub enum Place {
     Nowhere,
     At(Column, Row),
 }
 
 // A row that was looked for.
-#[derive(Drop)]
+#[derive(Clone, Copy)]
 pub enum Level {
     None,
     In(Row),

@@ -10,7 +10,7 @@ use crate::reduce::furthest;
 use grid::lines::{Interval, Line};
 
 // The two greatest of several right lines, repeats counted; where there are fewer, the line from which they are looked for.
-#[derive(Drop)]
+#[derive(Clone, Copy)]
 pub struct Tops {
     pub greater: Line,
     pub lesser: Line,

@@ -53,7 +53,7 @@ pub fn final_set(t: &mut Table, last: Line, room: &mut [u8]) -> usize
 }
 
 // The two bracket searches.
-#[derive(Drop)]
+#[derive(Clone, Copy)]
 pub enum Search {
     Plain,
     Swept,

@@ -1,4 +1,6 @@
 // The interval table, and the method over it: dependent, the bracket search, reduce, final.
+#![tactic(auto)]
+
 pub mod bracket;
 pub mod column;
 pub mod dependent;
@@ -13,7 +15,7 @@ use grid::lines::Interval;
 // A word for each left line: bit r - 1 is on where the interval from that line to line r is in the set. No interval begins at the last line.
 pub type Table = [u64; SIDE];
 
-#[derive(Drop)]
+#[derive(Clone, Copy)]
 pub enum Found {
     Nothing,
     At(Interval),

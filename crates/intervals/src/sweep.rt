@@ -14,13 +14,13 @@ use crate::{Found, Table, table};
 use grid::lines::{Interval, Line};
 
 // The least lines from which every column up to the right line is held twice, and once, by the intervals seen so far.
-#[derive(Drop)]
+#[derive(Clone, Copy)]
 pub struct Held {
     pub twice: Line,
     pub once: Line,
 }
 
-#[derive(Drop)]
+#[derive(Clone, Copy)]
 pub enum Step {
     Dependent,
     On(Held),

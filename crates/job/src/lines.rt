@@ -15,7 +15,7 @@ use text::write::digit_count;
 pub const NUMBER_LIMIT: u64 = 9999;
 
 // What line 1 says, and the spot past it.
-#[derive(Drop)]
+#[derive(Clone, Copy)]
 pub enum Shape {
     Line {
         width: u64,
@@ -27,7 +27,7 @@ pub enum Shape {
 }
 
 // The lines of the rows: all as ruled, or the number of the first that is not.
-#[derive(Drop)]
+#[derive(Clone, Copy)]
 pub enum Lines {
     Ruled,
     Bad(usize),

@@ -15,7 +15,7 @@ use grid::raster::{Job, Size, size_fits};
 use text::write::put_squares;
 
 #[repr(C)]
-#[derive(Drop)]
+#[derive(Clone, Copy)]
 pub struct ReadOutcome {
     pub answer: u64,
     pub place_x: u64,
@@ -26,7 +26,7 @@ pub struct ReadOutcome {
 }
 
 // What judging a text finds: a refusal, or a job and the spot past line 1.
-#[derive(Drop)]
+#[derive(Clone, Copy)]
 pub enum Judged {
     Refused(Answer),
     Fine(Job, usize),

@@ -8,7 +8,7 @@ ghost use Rattle.job.specs.Reading.{shape_at, rows_from};
 use crate::lines::{Lines, Shape, judge_rows, read_shape};
 use grid::raster::Size;
 
-#[derive(Drop)]
+#[derive(Clone, Copy)]
 pub struct Reader<'a> {
     pub text: &'a [u8],
     pub spot: usize,

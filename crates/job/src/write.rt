@@ -18,7 +18,7 @@ use text::line::put_line;
 use text::write::{put_body, put_byte, put_field};
 
 #[repr(C)]
-#[derive(Drop)]
+#[derive(Clone, Copy)]
 pub struct WriteOutcome {
     pub answer: u64,
     pub place_x: u64,

@@ -1,7 +1,7 @@
 -- A good flash, one test after the other, and the rows of its interval: how the code asks. A bare square likewise.
 -- Each law opens one definition; `is_good` and `is_bare` use them.
 use mathlib.Core.Path.{◌≡◌, ap, ◌∙◌}
-use mathlib.Core.Bool.{Bool, true, false, not, ◌&&◌, and_false}
+use mathlib.Core.Bool.{Bool, true, false, not, ◌&&◌, and-false}
 use mathlib.Core.List.{List}
 use Prim.Native.Nat.{ℕ, suc, ◌+◌, ◌-◌, ◌≤◌, ◌<◌}
 use native.Mathlib.Numerals.{add-one}
@@ -39,7 +39,7 @@ module _ (a : Area) (w h : ℕ) (q : Rectangle) where
 
   pub not-on_grid : on_grid w h q ≡ false → good a w h q ≡ false
   unfolding good
-  not-on_grid f = rw (f, and_false (upright q))
+  not-on_grid f = rw (f, and-false (upright q))
 
   -- what is left to ask: the rows from the bottom up to the one above the top, along the interval of the columns
   pub good-rows : {l r : Line} {b : Bool} → upright q ≡ true → on_grid w h q ≡ true → l ≡ line q.first → r ≡ line (q.last + 1)

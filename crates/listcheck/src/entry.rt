@@ -20,7 +20,7 @@ use grid::{answers, limits};
 use intervals::final_set::Search;
 
 #[repr(C)]
-#[derive(Drop)]
+#[derive(Clone, Copy)]
 pub struct Checked {
     pub answer: u64,
     pub place_x: u64,

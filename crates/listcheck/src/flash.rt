@@ -18,7 +18,7 @@ use grid::lines::{Interval, Row};
 use grid::raster::Size;
 
 // A bad flash, by its line.
-#[derive(Drop)]
+#[derive(Clone, Copy)]
 pub enum Bad {
     None,
     At(usize),

@@ -11,14 +11,14 @@ use text::line::read_line;
 use text::read::Next;
 
 // The flash of a line, and the spot past the line.
-#[derive(Drop)]
+#[derive(Clone, Copy)]
 pub enum Said {
     Flash(Flash, usize),
     Nothing,
 }
 
 // How many lines are as ruled, from the first on, and the spot where they end.
-#[derive(Drop)]
+#[derive(Clone, Copy)]
 pub struct Lines {
     pub count: usize,
     pub end: usize,

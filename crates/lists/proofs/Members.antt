@@ -59,6 +59,7 @@ module _ {ℓ} {A : Type ℓ} where
       (λ u. let r = first_found p ys (rw u at e) in (Memᴰ.tail r.0, r.1))
 
   pub first-none : (p : A → Bool) (xs : List A) → first p xs ≡ none → {x : A} → In x xs → p x ≡ false
+  first-none p [] e m = elim m [ ]
   first-none p (y ∷ ys) e {x} (Memᴰ.head q) = fails (p x) (λ t. missing (rw (sym (ap p q) ∙ t) at e) refl)
   first-none p (y ∷ ys) e {x} (Memᴰ.tail m) = bcase (p y) (λ u. absurd (missing (rw u at e) refl)) (λ u. first-none p ys (rw u at e) m)
 

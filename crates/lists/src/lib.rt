@@ -1,1 +1,2 @@
 // No code: what the definitions of the crates above say about lists, once.
+#![tactic(auto)]

@@ -113,15 +113,15 @@ one_end {n} {s} (suc m) listed h (next d a p) et (next {t = u} {ds = es} e b q) 
     let zb = reduce_size n s e listed b in
     by_cases (interval_discrete d e)
     (λ z.
-    let i = one_end m (reduce-listed n s d) (omega arith) p et (subst (λ x. Reduces n (reduce n s x) es u) (sym z) q) eu in
+    let i = one_end {s = reduce n s d} m (reduce-listed n s d) (omega arith) p et (subst (λ x. Reduces n (reduce n s x) es u) (sym z) q) eu in
     (i.0, λ c. omega (arith, i.1 c, ap (λ x. bit (c x)) z)))
     (λ z.
     let v = reduce n (reduce n s d) e in
     let w = trace_reduces n v in
     let f = final-ended n v (reduce-listed n (reduce n s d) e) in
-    let i = one_end m (reduce-listed n s d) (omega arith) p et (next e (reduce-keeps n s d listed a e b z) w) f in
+    let i = one_end {s = reduce n s d} m (reduce-listed n s d) (omega arith) p et (next e (reduce-keeps n s d listed a e b z) w) f in
     let j =
-    one_end m (reduce-listed n s e) (omega arith) q eu
+    one_end {s = reduce n s e} m (reduce-listed n s e) (omega arith) q eu
     (next d (reduce-keeps n s e listed b d a (λ y. z (sym y))) (subst (λ x. Reduces n x (trace n v) (final n v)) (reduce_commute n s d listed a e b z) w))
     f in
     (i.0 ∙ sym j.0, λ c. omega (arith, i.1 c, j.1 c)))

@@ -1,7 +1,7 @@
 -- Rule 4 as written is rule 4 row by row, for every bracket of a listed set, proper or not.
 -- Everything that the theory proves of `red` thereby holds of `reduce`.
 use mathlib.Core.Path.{◌≡◌, refl, sym, ap, ◌∙◌, fun_ext}
-use mathlib.Core.Bool.{Bool, true, not, ◌&&◌, ◌||◌, and_true, and_false, or-true, or-false}
+use mathlib.Core.Bool.{Bool, true, not, ◌&&◌, ◌||◌, and-true, and-false, or-true, or-false}
 use mathlib.Core.List.{List}
 use Prim.Native.Nat.{ℕ, suc, ◌≤◌, ◌<◌}
 use native.Mathlib.Omega.{arith}
@@ -77,7 +77,7 @@ module _ (n : ℕ) (s : List Interval) (listed : Listed n s) (a b : ℕ) where
       go : Place (has s) a b l r (red (has s) a b l r) → stays (span l r) ≡ red (has s) a b l r
       go (drop j q z) =
           let y = fails (member (span l r) (meets (outermost s (span a b)))) (λ m. let w = added-meet l r m in omega arith) in
-          rw (jump_dropped l r j.rise q, y, z) (simp and_false)
+          rw (jump_dropped l r j.rise q, y, z) (simp and-false)
       go (add j q w z) = rw (meet-added l r j.rise q w, z) (or-true (has s l r && not (member (span l r) (outermost s (span a b)))))
       go (keep f z) =
           let x =
@@ -92,7 +92,7 @@ module _ (n : ℕ) (s : List Interval) (listed : Listed n s) (a b : ℕ) where
           let w = added-meet l r m in
           let j = jump-here n s listed a b l w.0 in
           omega (arith, (f (record { from = j.0; upto = omega arith; rise = w.0 })).1 w.1)) in
-          rw (x, y, z) (simp (and_true, or-false))
+          rw (x, y, z) (simp (and-true, or-false))
 
   -- the same for all places at once
   pub has-reduce : has (reduce n s (span a b)) ≡ red (has s) a b

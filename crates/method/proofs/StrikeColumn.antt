@@ -1,7 +1,7 @@
 -- Striking a column: the bag of the rest is the bag of the set without the brackets that hold the column; so the final set of the rest has fewer intervals by as many
 -- as held it (000, theorem 4.6, for one). A minimal bracket that does not hold the column is reduced with and without it; if all hold it, so does every bracket of a run, and the rest has no dependence.
 use mathlib.Core.Path.{◌≡◌, refl, sym, ap, fun_ext, ◌∙◌}
-use mathlib.Core.Bool.{Bool, true, false, not, ◌&&◌, ◌||◌, false≢true, and_true, and_false}
+use mathlib.Core.Bool.{Bool, true, false, not, ◌&&◌, ◌||◌, false≢true, and-true, and-false}
 use mathlib.Core.List.Memᴰ
 use mathlib.Core.List.{List, [], ◌∷◌}
 use Prim.Native.Nat.{ℕ, zero, suc, ◌+◌, ◌<◌}
@@ -99,10 +99,10 @@ abbrev pub selected : List Interval → List Interval → Interval → Bool
 selected s dropped i = (member i s && not (member i dropped)) || member i (meets dropped)
 
 pub and_last : (m o a h : Bool) → (a ≡ true → h ≡ true) → (m && h && o || a) ≡ ((m && o || a) && h)
-and_last true o a true f = sym (and_true (o || a))
-and_last false o a true f = sym (and_true a)
+and_last true o a true f = sym (and-true (o || a))
+and_last false o a true f = sym (and-true a)
 and_last m o true false f = absurd (false≢true (f refl))
-and_last m o false false f = ap (λ b. b && o || false) (and_false m) ∙ sym (and_false (m && o || false))
+and_last m o false false f = ap (λ b. b && o || false) (and-false m) ∙ sym (and-false (m && o || false))
 
 pub strike-reduce : (n x : ℕ) (s : List Interval) (d : Interval) → holds x d ≡ false → reduce n (strike x s) d ≡ strike x (reduce n s d)
 unfolding reduce strike

@@ -1,2 +1,4 @@
 // An outcome as lines of text.
+#![tactic(auto)]
+
 pub mod outcome;

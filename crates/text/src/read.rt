@@ -6,14 +6,14 @@ ghost use Rattle.text.specs.Decimal.{is_digit_byte, digits_at, number_at, field_
 use crate::glyphs::{COPPER, NINE, NONE, TAB, ZERO};
 
 // The spot past what stood where it was looked for.
-#[derive(Drop)]
+#[derive(Clone, Copy)]
 pub enum Next {
     Spot(usize),
     Nothing,
 }
 
 // A number and the spot past its digits.
-#[derive(Drop)]
+#[derive(Clone, Copy)]
 pub enum Number {
     Value(u64, usize),
     Nothing,

@@ -8,7 +8,7 @@ use crate::read::{Next, Number, read_byte, read_number};
 use crate::write::{print_number, put_byte};
 
 // A signed number and the spot past its digits.
-#[derive(Drop)]
+#[derive(Clone, Copy)]
 pub enum Integer {
     Value(i64, usize),
     Nothing,

@@ -1,4 +1,6 @@
 // For the benchmark alone, and not in the library: final sets of an area's starting set by themselves, so many that the clock can tell.
+#![tactic(auto)]
+
 ghost use Rattle.std.specs.Prelude.{◌≡◌, ◌≤◌, length};
 ghost use Rattle.method.specs.Final.{final};
 ghost use Rattle.grid.specs.Limits.{side};

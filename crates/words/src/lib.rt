@@ -1,4 +1,6 @@
 // The bits of a machine word. Contracts speak of single bits, so that no caller reasons about shifts and masks.
+#![tactic(auto)]
+
 ghost use Rattle.std.specs.Prelude.{◌≡◌, cond, not, ◌&&◌, ◌||◌, ◌+◌, ◌-◌, ◌<◌, ◌≤◌, eqb, ltb};
 ghost use Rattle.lists.specs.Lists as List;
 ghost use Rattle.lists.specs.Lists.{first, down};

@@ -1,0 +1,12 @@
+-- `found` meets its contract: a refusal at the place, or none, behind the one that stands.
+use Rattle.std.proofs.Common.{arith}
+use mathlib.Core.Path.{ap, ◌∙◌}
+use borrow.Author.Rules.{rules}
+use Rattle.grid.specs.Answers.{or_else}
+use Rattle.grid.proofs.answers.Answer.found.Goals as goal
+
+pub returns-in-Nowhere : goal.returns-in-Nowhere
+returns-in-Nowhere c = rw c.in-Nowhere.is (c.or.ensures ∙ ap (or_else c.args.self) c.done.ensures)
+
+pub returns-in-At : goal.returns-in-At
+returns-in-At c = rw c.in-At.is (c.or-in-At.ensures ∙ ap (or_else c.args.self) c.at.ensures)

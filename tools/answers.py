@@ -1,0 +1,426 @@
+#!/usr/bin/env python3
+"""Turns proofs that walk the code (proofs/F/Proof.antt of an older kit) into Invariants.antt and Answers.antt.
+
+usage: answers.py CRATE [FUNCTION..]      at the top, after `rt check --generated /tmp/names-CRATE --old-names` in the crate (the script runs it)
+A FUNCTION is its path below proofs/, as raster/next_row. What could not be turned is said on a line 'left:'.
+"""
+
+import json
+import os
+import re
+import subprocess
+import sys
+
+TOK = re.compile(r'[^\s(){}.;,@"«»`]+')
+PATH = re.compile(r"(?<![^\s(){};,@])([^\s(){}.;,@\"«»`]+)((?:\.[^\s(){}.;,@\"«»`]+)+)")
+
+
+def norm(s):
+    return s.replace("_", "-")
+
+
+def bare_need(s):
+    s = norm(s)
+    for p in ("overflow-", "nonzero-"):
+        if s.startswith(p):
+            s = s[len(p):]
+    return s
+
+
+class Fn:
+    def __init__(self, crate, fn, entry):
+        self.crate, self.fn, self.e = crate, fn, entry
+        self.left = []
+        self.places = {}  # old place -> (prev, old field, new field, index)
+        for i, p in enumerate(entry["places"]):
+            self.places[norm(p[0])] = (p[1] and norm(p[1]), norm(p[2][0]), p[2][1], i)
+        self.needs = {}
+        for (old, new), at in zip(entry["needs"], entry["asked_at"]):
+            self.needs[bare_need(old)] = (new, norm(at[0]))
+        self.order = [bare_need(o) for o, _ in entry["needs"]]
+        self.loops = {norm(l[0][0]): (l[0][1], l[1], ch) for l, ch in zip(entry["loops"], entry["changed"])}
+        self.loop_old = {norm(l[0][0]): l[0][0] for l in entry["loops"]}
+
+    # a path that begins at an old place: what it is today
+    def walk(self, place, segs, var):
+        """(place, None) where it ends at a place, else (None, text)."""
+        i = 0
+        while i < len(segs) and segs[i] == "before":
+            prev = self.places.get(place, (None,))[0]
+            if prev is None:
+                self.left.append(f"no step before {place}")
+                return None, var + "." + ".".join(segs)
+            place = prev
+            i += 1
+        if i == len(segs):
+            return place, None
+        f, rest = norm(segs[i]), segs[i + 1:]
+        prev, oldf, newf, idx = self.places.get(place, (None, "", "", 0))
+        if place == "Start" or f in ("args", "requires", "ranges", "fn"):
+            return None, ".".join([var, segs[i]] + rest)
+        # what an element of a slice is
+        if f.startswith("shared-slice-known") or f.startswith("slice-known"):
+            # of all the steps at or before, the one of this name
+            for name, step in self.e["typed"][idx]:
+                if norm(step) == re.sub(r"^", "", f) or norm(step) == f:
+                    return None, f"{var}.type_inv.{name}"
+            for name, step in self.e["typed"][idx][-1:]:
+                return None, f"{var}.type_inv.{name}"
+        # an arm's facts
+        for arms in [self.e["arms"][idx]] if self.e["arms"][idx] else []:
+            best = None
+            for new, fld, path in arms[2]:
+                if norm(fld) == f and rest[: len(path)] == path and (best is None or len(path) > len(best[1])):
+                    best = (new, path)
+            if best is not None and not best[0].endswith("-own"):
+                return None, ".".join([var, arms[0], best[0]] + rest[len(best[1]):])
+        if f == oldf:
+            rest = ["branch" if r == "came" else r for r in rest]
+            return None, ".".join([var, newf] + rest)
+        self.left.append(f"field {f} at {place} (it has {oldf})")
+        return None, ".".join([var, segs[i]] + rest)
+
+    def body(self, text, env, macros, depth=0):
+        """text with each path from a variable of env (a place) turned; env: variable -> place."""
+        out, at = "", 0
+        env = dict(env)
+        # lets that name a place
+        pos = 0
+        pattern = re.compile(r"let ([^\s:=]+) = ([^\s(){};,]+?)\s+in\b\s*")
+        while True:
+            m = pattern.search(text, pos)
+            if not m:
+                break
+            segs = m[2].split(".")
+            if segs[0] in env:
+                place, t = self.walk(env[segs[0]], segs[1:], "c")
+                if t is None:
+                    # the name stands for the place from here on
+                    pre = text[: m.start()]
+                    post = text[m.end():]
+                    name = m[1]
+                    fresh = f"{name}§{place}"
+                    post = re.sub(r"(?<![^\s(){};,@])" + re.escape(name) + r"(?=[\s.(){};,]|$)", lambda _: fresh, post)
+                    env[fresh] = place
+                    text = pre + post
+                    pos = m.start()
+                    continue
+            pos = m.end()
+        # helpers over places are written out
+        if macros and depth < 8:
+            for name, (params, hbody, htype) in macros.items():
+                while True:
+                    m = re.search(r"(?<![^\s(){};,@])" + re.escape(name) + r"((?: (?:[^\s(){};,]+|\([^()]*\))){" + str(len(params)) + r"})(?![^\s(){};,])", text)
+                    if not m:
+                        break
+                    args = re.findall(r"\([^()]*\)|[^\s(){};,]+", m[1])
+                    b, ty = hbody, htype
+                    for p, a in zip(params, args):
+                        sub = lambda s: re.sub(r"(?<![^\s(){};,@])" + re.escape(p) + r"(?=[\s.(){};,]|$)", lambda _: a, s)
+                        b = sub(b)
+                    text = text[: m.start()] + "(" + b.strip() + ")" + text[m.end():]
+                    depth += 1
+                    if depth > 40:
+                        break
+            r = self.body(text, env, {}, 9)
+            return r
+
+        def one(m):
+            v, segs = m[1], m[2][1:].split(".")
+            if v not in env:
+                return m[0]
+            place, t = self.walk(env[v], segs, "c")
+            return t if t is not None else "c"
+
+        text = PATH.sub(one, text)
+        for v in env:
+            if "§" in v:
+                text = re.sub(r"(?<![^\s(){};,@])" + re.escape(v) + r"(?=[\s(){};,]|$)", "c", text)
+        return text
+
+
+def declarations(text):
+    """Head (comments and uses) and the declarations: (lines of comment, name, modifiers, type, unfolding, clauses)."""
+    lines = text.split("\n")
+    head, decls, i, note = [], [], 0, []
+    while i < len(lines):
+        l = lines[i]
+        if re.match(r"(--|use |\s*$)", l) and not decls and not note:
+            if l.startswith("--") and any(x.startswith("use ") for x in head):
+                note.append(l)
+            else:
+                head.append(l)
+            i += 1
+            continue
+        if l.startswith("--"):
+            note.append(l)
+            i += 1
+            continue
+        if not l.strip():
+            i += 1
+            continue
+        if re.match(r"(use|open) ", l):
+            head.append(l)
+            i += 1
+            continue
+        block = [l]
+        i += 1
+        if l.startswith("module "):
+            while i < len(lines) and (lines[i].startswith(" ") or not lines[i].strip()):
+                block.append(lines[i])
+                i += 1
+            decls.append((note, block))
+            note = []
+            continue
+        while i < len(lines):
+            n = lines[i]
+            if n.startswith(" ") or re.match(r"unfolding ", n):
+                block.append(n)
+                i += 1
+                continue
+            if not n.strip():
+                # a blank inside a declaration is its end
+                break
+            if n.startswith("--"):
+                break
+            m = re.match(r"((?:abbrev |pub |unfoldable )*)([^\s:]+)", block[0])
+            if re.match(re.escape(m[2]) + r"(?=[\s=])", n):
+                block.append(n)
+                i += 1
+                continue
+            break
+        decls.append((note, block))
+        note = []
+    return head, decls
+
+
+def split_decl(block):
+    m = re.match(r"((?:abbrev |pub |unfoldable )*)([^\s:]+)\s*:", block[0])
+    if not m:
+        return None
+    mods, name = m[1], m[2]
+    sig, k = [block[0][m.end():]], 1
+    while k < len(block) and block[k].startswith(" "):
+        sig.append(block[k])
+        k += 1
+    unf = ""
+    if k < len(block) and block[k].startswith("unfolding "):
+        unf = block[k]
+        k += 1
+        while k < len(block) and block[k].startswith(" "):
+            unf += " " + block[k].strip()
+            k += 1
+    return mods, name, "\n".join(sig).strip(), unf, "\n".join(block[k:])
+
+
+def clause(name, text):
+    m = re.match(re.escape(name) + r"\s*(.*?)\s*=(?=\s)", text, re.S)
+    if not m or re.search(r"(?m)^" + re.escape(name) + r"[ =]", text[m.end():]):
+        return None, text
+    return m[1].split(), text[m.end():].strip("\n")
+
+
+def dedent(b):
+    return b.strip() if "\n" not in b.strip("\n") else b.rstrip()
+
+
+def main(argv):
+    crate, only = argv[0], argv[1:]
+    where = os.path.join("crates", crate)
+    gen = f"/tmp/names-{crate}"
+    subprocess.run(["rm", "-rf", gen])
+    subprocess.run(["rt", "check", "--generated", gen, "--old-names"], cwd=where, stdout=subprocess.DEVNULL, stderr=subprocess.DEVNULL)
+    with open(os.path.join(gen, "names.json")) as f:
+        names = json.load(f)
+    for folder, dirs, files in os.walk(os.path.join(where, "proofs")):
+        if "Proof.antt" not in files:
+            continue
+        fn = os.path.relpath(folder, os.path.join(where, "proofs"))
+        if only and fn not in only:
+            continue
+        key = f"Rattle-{crate}-proofs." + fn.replace("/", ".") + ".Lts"
+        if key not in names:
+            print(f"left: {crate} {fn}: no names ({key})")
+            continue
+        turn(crate, fn, names[key], folder)
+
+
+def turn(crate, fn, entry, folder):
+    with open(os.path.join(folder, "Proof.antt"), encoding="utf-8") as f:
+        text = f.read()
+    F = Fn(crate, fn, entry)
+    head, decls = declarations(text)
+    module = f"Rattle.{crate}.proofs." + fn.replace("/", ".")
+    parsed = []
+    spec = None
+    modules = []
+    for note, block in decls:
+        if block[0].startswith("module "):
+            modules.append("\n".join(note + block).rstrip())
+            if "tie." in modules[-1]:
+                F.left.append("a module names tie: " + block[0])
+            continue
+        d = split_decl(block)
+        if d is None:
+            F.left.append("not read: " + block[0][:80])
+            continue
+        if d[1].endswith("-spec") or d[1].endswith("_spec"):
+            spec = d
+            continue
+        parsed.append((note, d))
+    macros, helpers, invs, answers = {}, [], [], []
+    inv_names = set()
+    for note, (mods, name, sig, unf, body) in parsed:
+        m = re.match(r"tie\.(invariant|decreases)-(\S+)", sig)
+        if m:
+            inv_names.add(name)
+    for note, (mods, name, sig, unf, body) in parsed:
+        m = re.match(r"tie\.(invariant|decreases)-(\S+)", sig)
+        if m:
+            kind, old = m[1], norm(m[2])
+            if old not in F.loops:
+                F.left.append(f"no loop {old}")
+                continue
+            new, vars_, changed = F.loops[old]
+            params, b = clause(name, body)
+            if params is None:
+                F.left.append(f"{name}: several clauses")
+                continue
+            names_ = []
+            for v, ch in zip(vars_, changed):
+                names_.append(f"l.initial.{v}" if ch else f"l.{v}")
+            names_ += [f"l.{v}" for v, ch in zip(vars_, changed) if ch]
+            if len(params) != len(names_):
+                F.left.append(f"{name}: {len(params)} parameters for {names_}")
+            for p, n in zip(params, names_):
+                if p == "_":
+                    continue
+                if re.search(r"λ [^.]*(?<![^\s(])" + re.escape(p) + r"(?=[\s.)])|\(" + re.escape(p) + r" :", b):
+                    F.left.append(f"{name}: {p} is bound inside")
+                b = re.sub(r"(?<![^\s(){};,@])" + re.escape(p) + r"(?=[\s.(){};,]|$)", lambda _: n, b)
+            invs.append((note, f"{kind}-{new}", unf, b))
+            continue
+        m = re.match(r"tie\.Need-(\S+)", sig)
+        if m:
+            old = bare_need(m[1])
+            if old not in F.needs:
+                F.left.append(f"no goal {old}: {body[:60]!r}")
+                continue
+            new, place = F.needs[old]
+            params, b = clause(name, body)
+            if params is None:
+                F.left.append(f"{name}: several clauses")
+                continue
+            answers.append((note, new, place, params, unf, b))
+            continue
+        if "tie." in sig:
+            params, b = clause(name, body)
+            m = re.match(r"\(([^\s:]+) : tie\.(\S+?)\)|tie\.(\S+)", sig)
+            if params is None:
+                F.left.append(f"helper {name}: several clauses")
+                continue
+            macros[name] = (params, b, sig)
+            if unf:
+                F.left.append(f"helper {name} has {unf}")
+            continue
+        helpers.append((note, mods, name, sig, unf, body))
+    # in the spec line: answers that stand there alone
+    if spec:
+        s = spec[4]
+        m = re.search(r"tie\.spec\b(.*)", s, re.S)
+        if m:
+            args, depth, cur = [], 0, ""
+            for ch in m[1].strip():
+                if ch == ")" and depth == 0:
+                    break
+                if ch in "({":
+                    depth += 1
+                if ch in ")}":
+                    depth -= 1
+                if ch.isspace() and depth == 0:
+                    if cur:
+                        args.append(cur)
+                    cur = ""
+                else:
+                    cur += ch
+            if cur:
+                args.append(cur)
+            args = [a for a in args if not a.startswith("{")]
+            n_inv = 2 * len(F.loops)
+            # loops stand first, in pairs; then the goals in order
+            goals = args[n_inv:]
+            if len(goals) != len(F.order):
+                inline = [a for a in goals if a.startswith("(λ") and not re.fullmatch(r"\(λ \S+(?: \S+)?\. (?:search rules|omega arith|search needs)\)", a)]
+                if inline:
+                    F.left.append(f"{len(goals)} goals in the file, {len(F.order)} today: {inline}")
+                # align what can be: by the named ones
+                given = {}
+                k = 0
+                for a in goals:
+                    if a.startswith("(λ"):
+                        continue
+            else:
+                for a, old in zip(goals, F.order):
+                    m2 = re.fullmatch(r"\(λ (\S+)( \S+)?\. (.*)\)", a, re.S)
+                    if not m2 or m2[3] in ("search rules", "search needs", "omega arith"):
+                        continue
+                    new, place = F.needs[old]
+                    answers.append(([], new, place, [m2[1]] + ([m2[2].strip()] if m2[2] else []), "", m2[3]))
+        rest = re.search(r"tie\.close", s)
+    uses = [l for l in head if l.startswith("use ") and not re.search(r"\.Tie as tie|\.Statement\.|\.Reads as|\.Lts as| as reads| as lts|^use native.Mathlib.Omega.\{arith\}", l)]
+    omega = "use Rattle.std.proofs.Common.{arith}"
+    comment = [l for l in head if l.startswith("--")]
+    out_inv, out_ans = [], []
+    inv_text = "\n".join(b for _, _, _, b in invs)
+    shared = []
+    # a helper that an invariant names, and what it names, goes with the invariants
+    need = set(TOK.findall(inv_text))
+    grown = True
+    while grown:
+        grown = False
+        for h in helpers:
+            if h[2] in need and h not in shared:
+                shared.append(h)
+                need |= set(TOK.findall(h[3] + " " + h[5]))
+                grown = True
+    for h in helpers:
+        note, mods, name, sig, unf, body = h
+        t = "\n".join(note + [f"{mods}{name} : {sig}"] + ([unf] if unf else []) + [body])
+        if h in shared:
+            out_inv.append(t if "pub " in mods else "\n".join(note + [("abbrev pub " if "abbrev" in mods else "pub " ) + f"{name} : {sig}"] + ([unf] if unf else []) + [body]))
+        else:
+            out_ans.append(t)
+    named = {n for t in modules for n in re.findall(r"(?m)^  (?:pub |abbrev |unfoldable )*([^\s:]+)[^:\n]* :", t)}
+    (out_inv if named & need else out_ans).extend(modules)
+    if named & need:
+        shared += [(None, None, n) for n in sorted(named)]
+    for note, new, unf, b in invs:
+        out_inv.append("\n".join(note + [f"abbrev pub {new} : goal.{new}"] + ([unf] if unf else []) + [f"{new} l = {dedent(b)}"]))
+    for note, new, place, params, unf, b in answers:
+        env = {params[0]: place} if params and params[0] != "_" else {}
+        t = F.body(b, env, macros)
+        if re.fullmatch(r"\s*(search rules|search needs)\s*", t):
+            continue
+        if len(params) > 1 and re.search(r"(?<![^\s(])" + re.escape(params[1]) + r"(?=[\s).])", t):
+            F.left.append(f"{new}: {params[1]} is used")
+        if params and params[0] not in ("c", "_"):
+            t = t
+        out_ans.append("\n".join(note + [f"pub {new} : goal.{new}"] + ([unf] if unf else []) + [f"{new} c = {dedent(t)}"]))
+    if out_inv:
+        with open(os.path.join(folder, "Invariants.antt"), "w", encoding="utf-8") as f:
+            f.write("\n".join(comment + [omega] + uses + [f"use {module}.Given as goal", ""]) + "\n" + "\n\n".join(out_inv) + "\n")
+    if out_ans:
+        u = list(uses)
+        if shared:
+            u.append(f"use {module}.Invariants.{{{', '.join(h[2] for h in shared)}}}")
+        with open(os.path.join(folder, "Answers.antt"), "w", encoding="utf-8") as f:
+            f.write("\n".join(comment + [omega] + u + [f"use {module}.Goals as goal", ""]) + "\n" + "\n\n".join(out_ans) + "\n")
+    to = os.path.join("/tmp/aside", crate, fn)
+    os.makedirs(to, exist_ok=True)
+    os.replace(os.path.join(folder, "Proof.antt"), os.path.join(to, "Proof.antt"))
+    for l in F.left:
+        print(f"left: {crate} {fn}: {l}")
+
+
+if __name__ == "__main__":
+    main(sys.argv[1:])

@@ -27,6 +27,35 @@ def bare_need(s):
     return s
 
 
+def labels():
+    """crate::module::fn (also Type::fn) -> labels of its ensures, of its requires."""
+    out = {}
+    for folder, dirs, files in os.walk("crates"):
+        dirs[:] = [d for d in dirs if d not in ("out",)]
+        for f in files:
+            if not f.endswith(".rt"):
+                continue
+            p = os.path.join(folder, f)
+            crate = p.split("/")[1]
+            with open(p, encoding="utf-8") as it:
+                t = re.sub(r"//.*", "", it.read())
+            mod = "" if f in ("lib.rt", "main.rt") else f[:-3] + "::"
+            impl = ""
+            for m in re.finditer(r"(?m)^impl(?:<[^>]*>)? (\w+)|^(\})|\bfn (\w+)[^{;]*?\)(?: -> [^{;]*?)?\s*((?:(?:requires|ensures)\*?\s*\w*\s*\{[^{}]*(?:\{[^{}]*\}[^{}]*)*\}\s*)*)", t):
+                if m[1]:
+                    impl = m[1] + "::"
+                elif m[2]:
+                    impl = ""
+                elif m[3]:
+                    en = re.findall(r"ensures\*?\s*(\w*)\s*\{", m[4])
+                    rq = re.findall(r"requires\*?\s*(\w*)\s*\{", m[4])
+                    out[f"{crate}::{mod}{impl}{m[3]}"] = (en, rq)
+    return out
+
+
+LABELS = {}
+
+
 class Fn:
     def __init__(self, crate, fn, entry):
         self.crate, self.fn, self.e = crate, fn, entry
@@ -41,44 +70,77 @@ class Fn:
         self.loops = {norm(l[0][0]): (l[0][1], l[1], ch) for l, ch in zip(entry["loops"], entry["changed"])}
         self.loop_old = {norm(l[0][0]): l[0][0] for l in entry["loops"]}
 
-    # a path that begins at an old place: what it is today
-    def walk(self, place, segs, var):
-        """(place, None) where it ends at a place, else (None, text)."""
+    def chain(self, place):
+        out = []
+        while place is not None and place in self.places:
+            out.append(place)
+            place = self.places[place][0]
+        return out
+
+    # a path that begins some steps before an old place: what it is today. An older kit had steps that today's has not, so a field finds its step by its name.
+    def walk(self, at, segs, var):
+        """((place, steps), None) where it ends at a place, else (None, text)."""
+        place, deep = at
         i = 0
         while i < len(segs) and segs[i] == "before":
-            prev = self.places.get(place, (None,))[0]
-            if prev is None:
-                self.left.append(f"no step before {place}")
-                return None, var + "." + ".".join(segs)
-            place = prev
             i += 1
+        deep += i
         if i == len(segs):
-            return place, None
+            return (place, deep), None
         f, rest = norm(segs[i]), segs[i + 1:]
-        prev, oldf, newf, idx = self.places.get(place, (None, "", "", 0))
-        if place == "Start" or f in ("args", "requires", "ranges", "fn"):
+        if f == "requires" and self.e["pre"]:
+            fields = self.e["pre"]["fields"]
+            k = 0
+            while k < len(rest) and rest[k] == "1" and k < len(fields) - 1:
+                k += 1
+            if k == len(fields) - 1:
+                return None, ".".join([var, "requires", fields[k]] + rest[k:])
+            if k < len(rest) and rest[k] == "0":
+                return None, ".".join([var, "requires", fields[k]] + rest[k + 1:])
+            self.left.append("requires taken whole")
+        if f in ("args", "requires", "ranges", "fn"):
             return None, ".".join([var, segs[i]] + rest)
-        # what an element of a slice is
+        chain = self.chain(place)
         if f.startswith("shared-slice-known") or f.startswith("slice-known"):
-            # of all the steps at or before, the one of this name
-            for name, step in self.e["typed"][idx]:
-                if norm(step) == re.sub(r"^", "", f) or norm(step) == f:
-                    return None, f"{var}.type_inv.{name}"
-            for name, step in self.e["typed"][idx][-1:]:
-                return None, f"{var}.type_inv.{name}"
-        # an arm's facts
-        for arms in [self.e["arms"][idx]] if self.e["arms"][idx] else []:
-            best = None
-            for new, fld, path in arms[2]:
-                if norm(fld) == f and rest[: len(path)] == path and (best is None or len(path) > len(best[1])):
-                    best = (new, path)
-            if best is not None and not best[0].endswith("-own"):
-                return None, ".".join([var, arms[0], best[0]] + rest[len(best[1]):])
-        if f == oldf:
-            rest = ["branch" if r == "came" else r for r in rest]
-            return None, ".".join([var, newf] + rest)
-        self.left.append(f"field {f} at {place} (it has {oldf})")
+            for pl in chain:
+                for name, step in self.e["typed"][self.places[pl][3]]:
+                    if norm(step) == f:
+                        return None, f"{var}.type_inv.{name}"
+        found = []
+        for f in [f] + ([f[:-4]] if f.endswith("-lem") else []):
+            for j, pl in enumerate(chain):
+                prev, oldf, newf, idx = self.places[pl]
+                arms = self.e["arms"][idx]
+                best = None
+                for new, fld, path in arms[2] if arms else []:
+                    if norm(fld) == f and rest[: len(path)] == path and not new.endswith("-own") and (best is None or len(path) > len(best[1])):
+                        best = (new, path)
+                if best is not None:
+                    found.append((abs(j - deep), j > deep, ".".join([var, arms[0], best[0]] + rest[len(best[1]):])))
+                elif f == oldf:
+                    found.append((abs(j - deep), j > deep, ".".join([var, newf] + self.stepped(idx, rest))))
+            if found:
+                break
+        if found:
+            return None, min(found)[2]
+        self.left.append(f"field {f} at {place}, {deep} steps back")
         return None, ".".join([var, segs[i]] + rest)
+
+    def stepped(self, idx, rest):
+        rest = ["branch" if r == "came" else r for r in rest]
+        callee = self.e["places"][idx][3]
+        if callee and rest and rest[0] in ("new", "auto") and len(rest) > 1:
+            k = 1
+            while k < len(rest) and rest[k] == "1":
+                k += 1
+            ps = self.e["params"].get(callee, [])
+            if k < len(rest) and rest[k] == "0" and k - 1 < len(ps):
+                rest = [rest[0], ps[k - 1]] + rest[k + 1:]
+        if callee and len(rest) > 1 and rest[0] == "ensures" and rest[1].isdigit():
+            en = LABELS.get(callee, ([], []))[0]
+            if len(en) > 1 and int(rest[1]) < len(en):
+                rest = ["ensures", en[int(rest[1])]] + rest[2:]
+        return rest
 
     def body(self, text, env, macros, depth=0):
         """text with each path from a variable of env (a place) turned; env: variable -> place."""
@@ -99,32 +161,13 @@ class Fn:
                     pre = text[: m.start()]
                     post = text[m.end():]
                     name = m[1]
-                    fresh = f"{name}§{place}"
+                    fresh = f"{name}§{place[0]}§{place[1]}"
                     post = re.sub(r"(?<![^\s(){};,@])" + re.escape(name) + r"(?=[\s.(){};,]|$)", lambda _: fresh, post)
                     env[fresh] = place
                     text = pre + post
                     pos = m.start()
                     continue
             pos = m.end()
-        # helpers over places are written out
-        if macros and depth < 8:
-            for name, (params, hbody, htype) in macros.items():
-                while True:
-                    m = re.search(r"(?<![^\s(){};,@])" + re.escape(name) + r"((?: (?:[^\s(){};,]+|\([^()]*\))){" + str(len(params)) + r"})(?![^\s(){};,])", text)
-                    if not m:
-                        break
-                    args = re.findall(r"\([^()]*\)|[^\s(){};,]+", m[1])
-                    b, ty = hbody, htype
-                    for p, a in zip(params, args):
-                        sub = lambda s: re.sub(r"(?<![^\s(){};,@])" + re.escape(p) + r"(?=[\s.(){};,]|$)", lambda _: a, s)
-                        b = sub(b)
-                    text = text[: m.start()] + "(" + b.strip() + ")" + text[m.end():]
-                    depth += 1
-                    if depth > 40:
-                        break
-            r = self.body(text, env, {}, 9)
-            return r
-
         def one(m):
             v, segs = m[1], m[2][1:].split(".")
             if v not in env:
@@ -165,7 +208,7 @@ def declarations(text):
             continue
         block = [l]
         i += 1
-        if l.startswith("module "):
+        if re.match(r"(module|(pub )?record|(pub )?data) ", l):
             while i < len(lines) and (lines[i].startswith(" ") or not lines[i].strip()):
                 block.append(lines[i])
                 i += 1
@@ -220,12 +263,55 @@ def clause(name, text):
     return m[1].split(), text[m.end():].strip("\n")
 
 
+def joined(a, b):
+    names = []
+    for u in (a, b):
+        for w in u.replace("unfolding", "").split():
+            if w not in names:
+                names.append(w)
+    return "unfolding " + " ".join(names) if names else ""
+
+
+def with_lets(F, t, macros):
+    """t with each helper over a place bound by a typed let before it."""
+    used, grown = [], True
+    word = lambda n: r"(?<![^\s(){};,@])" + re.escape(n) + r" c(?=[\s(){};,]|$)"
+    while grown:
+        grown = False
+        for n, (ty, params, b, unf) in macros.items():
+            if n in used:
+                continue
+            if any(re.search(word(n), x) for x in [t] + [macros[u][0] + " " + macros[u][2] for u in used]):
+                used.append(n)
+                grown = True
+    used = [n for n in macros if n in used]
+    if not used:
+        return t, ""
+    unfs = ""
+
+    def plain(x):
+        for n in used:
+            x = re.sub(word(n), n, x)
+        return x
+
+    out = []
+    for n in used:
+        ty, params, b, unf = macros[n]
+        b = plain(b).strip()
+        if params:
+            b = "λ " + " ".join(params) + ". " + b
+        out.append(f"let {n} : {plain(ty)} =\n    {b} in")
+        unfs = joined(unfs, unf)
+    return "\n    " + "\n    ".join(out) + "\n    " + plain(t).strip(), unfs
+
+
 def dedent(b):
     return b.strip() if "\n" not in b.strip("\n") else b.rstrip()
 
 
 def main(argv):
     crate, only = argv[0], argv[1:]
+    LABELS.update(labels())
     where = os.path.join("crates", crate)
     gen = f"/tmp/names-{crate}"
     subprocess.run(["rm", "-rf", gen])
@@ -255,7 +341,7 @@ def turn(crate, fn, entry, folder):
     spec = None
     modules = []
     for note, block in decls:
-        if block[0].startswith("module "):
+        if re.match(r"(module|(pub )?record|(pub )?data) ", block[0]):
             modules.append("\n".join(note + block).rstrip())
             if "tie." in modules[-1]:
                 F.left.append("a module names tie: " + block[0])
@@ -292,12 +378,11 @@ def turn(crate, fn, entry, folder):
             names_ += [f"l.{v}" for v, ch in zip(vars_, changed) if ch]
             if len(params) != len(names_):
                 F.left.append(f"{name}: {len(params)} parameters for {names_}")
-            for p, n in zip(params, names_):
-                if p == "_":
-                    continue
+            sub = {p: n for p, n in zip(params, names_) if p != "_"}
+            for p in sub:
                 if re.search(r"λ [^.]*(?<![^\s(])" + re.escape(p) + r"(?=[\s.)])|\(" + re.escape(p) + r" :", b):
                     F.left.append(f"{name}: {p} is bound inside")
-                b = re.sub(r"(?<![^\s(){};,@])" + re.escape(p) + r"(?=[\s.(){};,]|$)", lambda _: n, b)
+            b = re.sub(r"(?<![^\s(){};,@])([^\s(){}.;,@\"«»`]+)(?=[\s.(){};,]|$)", lambda m: sub.get(m[1], m[1]), b)
             invs.append((note, f"{kind}-{new}", unf, b))
             continue
         m = re.match(r"tie\.Need-(\S+)", sig)
@@ -319,9 +404,17 @@ def turn(crate, fn, entry, folder):
             if params is None:
                 F.left.append(f"helper {name}: several clauses")
                 continue
-            macros[name] = (params, b, sig)
-            if unf:
-                F.left.append(f"helper {name} has {unf}")
+            m = re.match(r"\(([^\s:]+) : tie\.([^\s)]+)[^)]*\)\s*→\s*(.*)|tie\.(\S+)[^→]*→\s*(.*)", sig, re.S)
+            place = norm(m[2] or m[4])
+            ty = m[3] or m[5]
+            if "tie." in ty:
+                F.left.append(f"helper {name} takes two places")
+            macros[name] = (
+                F.body(ty, {m[1]: (place, 0)} if m[1] else {}, {}).strip(),
+                params[1:],
+                F.body(b, {params[0]: (place, 0)}, {}),
+                unf,
+            )
             continue
         helpers.append((note, mods, name, sig, unf, body))
     # in the spec line: answers that stand there alone
@@ -390,15 +483,25 @@ def turn(crate, fn, entry, folder):
             out_inv.append(t if "pub " in mods else "\n".join(note + [("abbrev pub " if "abbrev" in mods else "pub " ) + f"{name} : {sig}"] + ([unf] if unf else []) + [body]))
         else:
             out_ans.append(t)
-    named = {n for t in modules for n in re.findall(r"(?m)^  (?:pub |abbrev |unfoldable )*([^\s:]+)[^:\n]* :", t)}
-    (out_inv if named & need else out_ans).extend(modules)
-    if named & need:
-        shared += [(None, None, n) for n in sorted(named)]
+    for t in modules:
+        m = re.search(r"(?m)^(?:pub )?(?:record|data) (\S+)", t)
+        named = {m[1]} if m else set(re.findall(r"(?m)^  (?:pub |abbrev |unfoldable )*([^\s:]+)[^:\n]* :", t))
+        if named & need:
+            if m:
+                t = re.sub(r"(?m)^(?=record|data)", "pub ", t)
+                t = re.sub(r"(?m)^  (?!pub )(?=\S+(?: \S+)* :)", "  pub ", t)
+            out_inv.append(t)
+            shared += [(None, None, n) for n in sorted(named)]
+        else:
+            out_ans.append(t)
     for note, new, unf, b in invs:
         out_inv.append("\n".join(note + [f"abbrev pub {new} : goal.{new}"] + ([unf] if unf else []) + [f"{new} l = {dedent(b)}"]))
     for note, new, place, params, unf, b in answers:
-        env = {params[0]: place} if params and params[0] != "_" else {}
-        t = F.body(b, env, macros)
+        env = {params[0]: (place, 0)} if params and params[0] != "_" else {}
+        t = F.body(b, env, {})
+        t = re.sub(r"not[-_](?:true|false) _ (c\.[^\s()]+\.(?:true|false))", r"\1", t)
+        t, more = with_lets(F, t, macros)
+        unf = joined(unf, more)
         if re.fullmatch(r"\s*(search rules|search needs)\s*", t):
             continue
         if len(params) > 1 and re.search(r"(?<![^\s(])" + re.escape(params[1]) + r"(?=[\s).])", t):

@@ -1,0 +1,13 @@
+-- `greatest` meets its contract. The loop's invariant: `most` is the greatest of the numbers before `c`.
+use Rattle.std.proofs.Common.{arith}
+use mathlib.Core.Path.{◌≡◌, ap, ◌∙◌}
+use Prim.Native.Nat.{◌-◌, ◌≤◌}
+use Rattle.columns.specs.Columns.{greatest_in}
+use Rattle.columns.proofs.Extremes.{greatest-none, greatest-next}
+use Rattle.columns.proofs.reach.greatest.Given as goal
+
+abbrev pub invariant-loop-c : goal.invariant-loop-c
+invariant-loop-c l = (l.most ≡ greatest_in l.numbers l.first (l.c - l.first)) × (l.first ≤ l.c) × (l.c - l.first ≤ l.end - l.first)
+
+abbrev pub decreases-loop-c : goal.decreases-loop-c
+decreases-loop-c l = l.end - l.c

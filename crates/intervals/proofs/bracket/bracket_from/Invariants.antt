@@ -1,0 +1,32 @@
+-- `bracket_from` meets its contract: before each right line no dependent bracket ends, so the first left line downwards gives a minimal one.
+use Rattle.std.proofs.Common.{arith}
+use mathlib.Core.Path.{◌≡◌, refl, sym, ap, ◌∙◌}
+use mathlib.Core.Bool.{true, false}
+use mathlib.Core.List.{List}
+use Prim.Native.Nat.{ℕ, suc, ◌+◌, ◌-◌, ◌≤◌, ◌<◌}
+use Rattle.method.specs.Intervals.{Interval as Span, span}
+use Rattle.method.specs.Dependent.{dependent}
+use Rattle.method.specs.Final.{leftmost}
+use Rattle.method.proofs.Search.{downward, downward-hit, downward_miss, downward-end, downward-minimal, before-next}
+use Rattle.grid.specs.Lines.{interval}
+use Rattle.intervals.specs.declared.Found.TheVariants.{Nothing, At}
+use Rattle.intervals.specs.Table.{set_of, found_of}
+use Rattle.intervals.specs.Search.{NoneBefore}
+use Rattle.intervals.proofs.LeftmostAt.{leftmost-at, leftmost-past}
+use Rattle.intervals.proofs.bracket.bracket_from.Given as goal
+
+-- of the left lines before line r those from l on give nothing
+abbrev pub Passed : List Span → ℕ → ℕ → Type 0
+Passed s r l = downward s r r ≡ downward s r l
+
+abbrev pub invariant-loop-left : goal.invariant-loop-left
+invariant-loop-left l = (l.left ≤ l.right) × Passed (set_of l.last.0 l.t) l.right l.left
+
+abbrev pub decreases-loop-left : goal.decreases-loop-left
+decreases-loop-left l = l.left
+
+abbrev pub invariant-search : goal.invariant-search
+invariant-search l = NoneBefore (set_of l.last.0 l.t) l.right
+
+abbrev pub decreases-search : goal.decreases-search
+decreases-search l = suc l.last.0 - l.right

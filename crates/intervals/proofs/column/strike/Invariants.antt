@@ -1,0 +1,20 @@
+-- `strike` meets its contract: the rows before line l are struck, and all others are as they were.
+use Rattle.std.proofs.Common.{arith}
+use mathlib.Core.Path.{◌≡◌, sym, ap, ◌∙◌}
+use Prim.Native.Nat.{◌+◌, ◌-◌, ◌≤◌}
+use borrow.Author.Rules.{rules}
+use Rattle.method.specs.Strike.{strike}
+use Rattle.grid.proofs.Edges.{number}
+use Rattle.intervals.specs.Table.{set_of, table_of, Tabled, cut_at}
+use Rattle.intervals.specs.Counts.{begun_before}
+use Rattle.intervals.proofs.TableLaws.{set-listed, left_as}
+use Rattle.intervals.proofs.ColumnRows.{struck_to, struck_listed, struck_none, struck_next, struck_all}
+use Rattle.intervals.proofs.column.strike.Given as goal
+
+abbrev pub invariant-loop-l : goal.invariant-loop-l
+invariant-loop-l l = (l.l ≤ l.l-end)
+    × Tabled l.last.0 l.t
+    × (l.t ≡ table_of (struck_to l.last.0 (set_of l.last.0 l.initial.t) l.edge.0 l.l))
+
+abbrev pub decreases-loop-l : goal.decreases-loop-l
+decreases-loop-l l = l.l-end - l.l

@@ -1,0 +1,38 @@
+-- `dependent` meets its contract: the two lines are the greatest of the bracket's rows before line l, and every column before l is held twice.
+-- With row l the lines beyond l are the intervals that hold column l: no later row holds it.
+use Rattle.std.proofs.Common.{arith}
+use mathlib.Core.Path.{◌≡◌, sym, ap}
+use mathlib.Core.Bool.{true, false}
+use mathlib.Core.List.{List}
+use mathlib.Core.Logic.{by_cases}
+use Prim.Native.Nat.{ℕ, suc, ◌+◌, ◌-◌, ◌≤◌, ◌<◌}
+use native.Mathlib.Decide.{ℕ_discrete}
+use native.Mathlib.Numerals.{add-one}
+use Rattle.lists.proofs.Truth.{fails}
+use Rattle.method.specs.Intervals.{Interval as Span, span}
+use Rattle.method.specs.Dependent.{covered_inside, dependent}
+use Rattle.method.specs.Runs.{Listed}
+use Rattle.method.proofs.Sets.{has, K}
+use Rattle.method.proofs.Boxes.{K-rows, K-no-rows}
+use Rattle.method.proofs.Counts.{covered-box}
+use Rattle.method.proofs.Lines.{holds-lines, lines_hold}
+use Rattle.method.proofs.Minimal.{dependent-proper, dependent-twice, dependent_if, dependent-within}
+use Rattle.grid.specs.Lines.{span_of}
+use Rattle.intervals.specs.declared.dependent.Tops.{Tops}
+use Rattle.intervals.specs.Table.{set_of}
+use Rattle.intervals.specs.Tops.{tops, ends_beyond, Greatest, WithRow}
+use Rattle.intervals.proofs.TableLaws.{set-listed}
+use Rattle.intervals.proofs.TopLines.{ends-box, no_lines, greatest-same}
+use Rattle.intervals.proofs.dependent.dependent.Given as goal
+
+-- t has the two greatest lines of the rows a to l - 1 of the bracket (a, b), and the columns before l are held twice
+pub record Turn (s : List Span) (a b l : ℕ) (t : Tops) : Type 0 where
+  pub low : a ≤ l
+  pub greatest : Greatest a (λ x. K (has s) a l x b) t
+  pub twice : (x : ℕ) → a ≤ x → x < l → 2 ≤ covered_inside s (span a b) x
+
+abbrev pub invariant-loop-l : goal.invariant-loop-l
+invariant-loop-l l = (l.l ≤ l.l-end) × Turn (set_of l.last.0 l.t) l.initial.l l.l-end l.l l.tops
+
+abbrev pub decreases-loop-l : goal.decreases-loop-l
+decreases-loop-l l = l.l-end - l.l

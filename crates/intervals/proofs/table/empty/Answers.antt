@@ -1,0 +1,9 @@
+-- `empty` meets its contract: no bit is on.
+use Rattle.std.proofs.Common.{arith}
+use mathlib.Core.Path.{refl}
+use Rattle.grid.specs.Limits.{side}
+use Rattle.intervals.proofs.TableLaws.{empty-table}
+use Rattle.intervals.proofs.table.empty.Goals as goal
+
+pub returns : goal.returns
+returns c = empty-table side refl

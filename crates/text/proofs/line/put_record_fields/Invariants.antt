@@ -1,0 +1,13 @@
+-- Field by field, and then the line feed. The invariant: the fields from the k-th on and the line feed are left.
+use Rattle.std.proofs.Common.{arith}
+use Prim.Native.Nat.{◌-◌}
+use lib.ListN.{length}
+use Rattle.text.proofs.Onward.{start}
+use Rattle.text.proofs.Ahead.{Fielded, field_fits, field-written, feed-fits, fields-written}
+use Rattle.text.proofs.line.put_record_fields.Given as goal
+
+abbrev pub invariant-loop-k : goal.invariant-loop-k
+invariant-loop-k l = Fielded l.bytes l.initial.room l.spot l.room l.at l.k
+
+abbrev pub decreases-loop-k : goal.decreases-loop-k
+decreases-loop-k l = length l.bytes - l.k

@@ -1,0 +1,16 @@
+-- The invariant: what was to be written equals the digits that are left, those before the spot that was reached.
+use Rattle.std.proofs.Common.{arith}
+use borrow.Author.Rules.{rules}
+use mathlib.Core.Path.{◌≡◌, sym, ap, ◌∙◌, refl}
+use Prim.Native.Nat.{ℕ, ◌≤◌, ◌-◌, ◌+◌}
+use lib.ListN.{length, length-set}
+use Rattle.grid.specs.Rooms.{written}
+use Rattle.text.specs.Decimal.{decimal}
+use Rattle.text.proofs.Turns.{last_digits, all-last-digits, print_turn, print_done}
+use Rattle.text.proofs.write.print_number.Given as goal
+
+abbrev pub invariant-loop-at : goal.invariant-loop-at
+invariant-loop-at l = (l.at ≤ l.next) × (length l.room ≡ length l.initial.room) × (written l.initial.room l.spot (decimal l.value) ≡ written l.room l.spot (last_digits (l.at - l.spot) l.rest))
+
+abbrev pub decreases-loop-at : goal.decreases-loop-at
+decreases-loop-at l = l.at

@@ -1,0 +1,18 @@
+-- The invariant: what was to be written equals what is left of it, at the spot that was reached.
+use Rattle.std.proofs.Common.{arith}
+use borrow.Author.Rules.{rules}
+use mathlib.Core.Path.{◌≡◌, sym, ap, ◌∙◌, refl}
+use mathlib.Core.List.{map}
+use Prim.Native.Nat.{ℕ, ◌≤◌, ◌-◌, ◌+◌}
+use native.Mathlib.Nat.{add-zero}
+use lib.ListN.{length, drop, set, length-set}
+use Rattle.text.specs.Words.{chosen}
+use Rattle.grid.specs.Rooms.{written}
+use Rattle.text.proofs.Turns.{map-turn, map-done, length-map}
+use Rattle.text.proofs.write.put_chosen.Given as goal
+
+abbrev pub invariant-loop-k : goal.invariant-loop-k
+invariant-loop-k l = (l.k ≤ length l.bytes) × (length l.room ≡ length l.initial.room) × (written l.initial.room l.spot (map (chosen l.key l.hit l.miss) l.bytes) ≡ written l.room (l.spot + l.k) (map (chosen l.key l.hit l.miss) (drop l.k l.bytes)))
+
+abbrev pub decreases-loop-k : goal.decreases-loop-k
+decreases-loop-k l = length l.bytes - l.k

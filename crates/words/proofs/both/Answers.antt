@@ -1,0 +1,7 @@
+-- `both` meets its contract: bit by bit.
+use Rattle.std.proofs.Common.{arith}
+use Rattle.words.proofs.Digits.{on_and}
+use Rattle.words.proofs.both.Goals as goal
+
+pub returns : goal.returns
+returns c = on_and c.args.w c.args.v

@@ -76,6 +76,9 @@ class Fn:
         self.needs = {}
         for (old, new), at in zip(entry["needs"], entry["asked_at"]):
             self.needs[bare_need(old)] = (new, norm(at[0]))
+            if bare_need(old).startswith("part-"):
+                # a range's goals have also had this name
+                self.needs.setdefault("slice-bounds-" + bare_need(old)[5:], (new, norm(at[0])))
         self.order = [bare_need(o) for o, _ in entry["needs"]]
         self.loops = {norm(l[0][0]): (l[0][1], l[1], ch) for l, ch in zip(entry["loops"], entry["changed"])}
         self.loop_old = {norm(l[0][0]): l[0][0] for l in entry["loops"]}
@@ -113,6 +116,9 @@ class Fn:
         if f in ("args", "ranges", "fn") and rest:
             rest = [rest[0].replace("-", "_")] + rest[1:]
         if f in ("args", "requires", "ranges", "fn"):
+            # a parameter's name is the source's again
+            if f != "requires" and rest:
+                rest = [rest[0].replace("-", "_")] + rest[1:]
             return None, ".".join([var, segs[i]] + rest)
         chain = self.chain(place)
         if f.startswith("shared-slice-known") or f.startswith("slice-known"):
@@ -179,6 +185,12 @@ class Fn:
             if not m:
                 break
             segs = m[2].split(".")
+            if segs[0] in env and "given" in segs:
+                # what a pattern bound, taken whole: each use of it is a path of its own
+                post = re.sub(r"(?<![^\s(){};,@])" + re.escape(m[1]) + r"(?=[\s.(){};,]|$)", lambda _: m[2], text[m.end():])
+                text = text[: m.start()] + post
+                pos = m.start()
+                continue
             if segs[0] in env:
                 place, t = self.walk(env[segs[0]], segs[1:], "c")
                 if t is None:

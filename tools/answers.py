@@ -41,14 +41,23 @@ def labels():
                 t = re.sub(r"//.*", "", it.read())
             mod = "" if f in ("lib.rt", "main.rt") else f[:-3] + "::"
             impl = ""
-            for m in re.finditer(r"(?m)^impl(?:<[^>]*>)? (\w+)|^(\})|\bfn (\w+)[^{;]*?\)(?: -> [^{;]*?)?\s*((?:(?:requires|ensures)\*?\s*\w*\s*\{[^{}]*(?:\{[^{}]*\}[^{}]*)*\}\s*)*)", t):
+            for m in re.finditer(r"(?m)^impl(?:<[^>]*>)? (\w+)|^(\})|\bfn (\w+)", t):
                 if m[1]:
                     impl = m[1] + "::"
                 elif m[2]:
                     impl = ""
-                elif m[3]:
-                    en = re.findall(r"ensures\*?\s*(\w*)\s*\{", m[4])
-                    rq = re.findall(r"requires\*?\s*(\w*)\s*\{", m[4])
+                else:
+                    en, rq, i = [], [], m.end()
+                    while True:
+                        j = t.find("{", i)
+                        head = re.search(r"\b(requires|ensures)\*?\s*(\w*)\s*$", t[i:j]) if j >= 0 else None
+                        if not head:
+                            break
+                        (en if head[1] == "ensures" else rq).append(head[2])
+                        depth, i = 1, j + 1
+                        while depth:
+                            depth += {"{": 1, "}": -1}.get(t[i], 0)
+                            i += 1
                     out[f"{crate}::{mod}{impl}{m[3]}"] = (en, rq)
     return out
 
@@ -261,6 +270,64 @@ def clause(name, text):
     if not m or re.search(r"(?m)^" + re.escape(name) + r"[ =]", text[m.end():]):
         return None, text
     return m[1].split(), text[m.end():].strip("\n")
+
+
+def tail(t):
+    """Where the last expression of t begins, behind its lets."""
+    depth, at, i = 0, 0, 0
+    while i < len(t):
+        ch = t[i]
+        if ch in "({[":
+            depth += 1
+        elif ch in ")}]":
+            depth -= 1
+        elif depth == 0 and re.match(r"(?<![^\s])in(?=\s)", t[i:]) and (i == 0 or t[i - 1].isspace()):
+            at = i + 2
+        i += 1
+    return at
+
+
+def parts(t):
+    """The parts of a tuple that is all of t, or None."""
+    t = t.strip()
+    if not (t.startswith("(") and t.endswith(")")):
+        return None
+    depth, cur, out = 0, "", []
+    for i, ch in enumerate(t):
+        if ch in "({[":
+            depth += 1
+            if depth == 1:
+                continue
+        if ch in ")}]":
+            depth -= 1
+            if depth == 0:
+                if i != len(t) - 1:
+                    return None
+                break
+        if ch == "," and depth == 1:
+            out.append(cur)
+            cur = ""
+        else:
+            cur += ch
+    if cur.strip():
+        out.append(cur)
+    return [x.strip() for x in out] if len(out) > 1 else None
+
+
+def recorded(t, names):
+    """A tuple at the end of t as a record with these names."""
+    at = tail(t)
+    ps = parts(t[at:])
+    if ps is None:
+        return t
+    while len(ps) < len(names):
+        more = parts(ps[-1])
+        if more is None:
+            return t
+        ps = ps[:-1] + more
+    if len(ps) != len(names):
+        return t
+    return t[:at] + " record {\n" + "".join(f"      {n} = {x};\n" for n, x in zip(names, ps)) + "    }"
 
 
 def joined(a, b):
@@ -501,6 +568,15 @@ def turn(crate, fn, entry, folder):
         t = F.body(b, env, {})
         t = re.sub(r"not[-_](?:true|false) _ (c\.[^\s()]+\.(?:true|false))", r"\1", t)
         t, more = with_lets(F, t, macros)
+        own = LABELS.get(f"{crate}::" + fn.replace("/", "::"), ([], []))
+        if new.startswith("returns") and len(own[0]) > 1:
+            t = recorded(t, own[0])
+        m = re.match(r"([a-z_0-9]+)(?:-.*)?-requires(?:-.*)?$", new)
+        if m:
+            for callee in entry["params"]:
+                if callee.split("::")[-1] == m[1] and len(LABELS.get(callee, ([], []))[1]) > 1:
+                    t = recorded(t, LABELS[callee][1])
+                    break
         unf = joined(unf, more)
         if re.fullmatch(r"\s*(search rules|search needs)\s*", t):
             continue

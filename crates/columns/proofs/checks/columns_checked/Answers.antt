@@ -21,12 +21,18 @@ high-done a w h R = filled_as w _ _ (λ c l. end-top a c h) R
 
 pub returns-then-take_rows-eq0 : goal.returns-then-take_rows-eq0
 returns-then-take_rows-eq0 c = let z = c.requires.sized in
-    let R = c.take_rows.ensures in
-    (c.done.ensures ∙ sym (all_pass _ _ _ z.wide z.full (R.fit c.if-take_rows-eq0.true)), (low-done _ _ _ R.low, high-done _ _ _ R.high))
+    let R = c.take_rows.ensures in record {
+      value = c.done.ensures ∙ sym (all_pass _ _ _ z.wide z.full (R.fit c.if-take_rows-eq0.true));
+      filled = low-done _ _ _ R.low;
+      filled_2 = high-done _ _ _ R.high;
+    }
 
 pub returns : goal.returns
-returns c = let R = c.take_rows.ensures in
-    (c.refusal.ensures, (low-done _ _ _ R.low, high-done _ _ _ R.high))
+returns c = let R = c.take_rows.ensures in record {
+  value = c.refusal.ensures;
+  filled = low-done _ _ _ R.low;
+  filled_2 = high-done _ _ _ R.high;
+}
 
 pub take_rows-requires : goal.take_rows-requires
 take_rows-requires c = c.requires

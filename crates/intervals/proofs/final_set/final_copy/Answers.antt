@@ -11,8 +11,10 @@ use Rattle.intervals.proofs.final_set.final_copy.Goals as goal
 pub finish-requires : goal.finish-requires
 finish-requires c = let pre = c.requires in
     let n = c.args.last.0 in
-    let T : Tabled n c.copy.new.to = subst (Tabled n) (sym c.copy.ensures) pre in
-    (T, room-holds n c.copy.new.to bracket_room refl pre.fits)
+    let T : Tabled n c.copy.new.to = subst (Tabled n) (sym c.copy.ensures) pre in record {
+      tabled = T;
+      roomy = room-holds n c.copy.new.to bracket_room refl pre.fits;
+    }
 
 pub returns : goal.returns
 returns c = let n = c.args.last.0 in

@@ -6,7 +6,10 @@ use Rattle.intervals.proofs.FinishSteps.{OnWay, finished-long, way_start, turn-o
 use Rattle.intervals.proofs.final_set.final_set.Goals as goal
 
 pub reduce_next-requires : goal.reduce_next-requires
-reduce_next-requires c = let W = c.loop-last.invariant in (W.table, W.roomy)
+reduce_next-requires c = let W = c.loop-last.invariant in record {
+  tabled = W.table;
+  bracket_record_in_bounds = W.roomy;
+}
 
 pub overflow_add-reductions : goal.overflow_add-reductions
 overflow_add-reductions c = let W = c.loop-last.invariant in

@@ -69,8 +69,11 @@ loop-l-init c = let a = c.args in
 
 pub stepped-requires : goal.stepped-requires
 stepped-requires c = let n = c.args.last.0 in
-    let T = c.loop-l.invariant in
-    (c.requires.tabled, (omega (arith, T.low), step_asks n (set-listed n c.args.t.now) c.search.right T (omega arith)))
+    let T = c.loop-l.invariant in record {
+      tabled = c.requires.tabled;
+      left_lt_right = omega (arith, T.low);
+      swept = step_asks n (set-listed n c.args.t.now) c.search.right T (omega arith);
+    }
 
 pub loop-l-preserved : goal.loop-l-preserved
 loop-l-preserved c = let a = c.args in

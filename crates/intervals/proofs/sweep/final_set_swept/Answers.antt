@@ -46,7 +46,11 @@ loop-d-init c = let n = c.args.last.0 in
     }
 
 pub bracket_from-requires : goal.bracket_from-requires
-bracket_from-requires c = let W = c.loop-d.invariant in (W.way.table, (W.before, W.among))
+bracket_from-requires c = let W = c.loop-d.invariant in record {
+  tabled = W.way.table;
+  none_before = W.before;
+  ends_among = W.among;
+}
 
 pub returns-in_default : goal.returns-in_default
 returns-in_default c = let n = c.args.last.0 in
@@ -97,4 +101,4 @@ pub doubled-doubled-requires : goal.doubled-doubled-requires
 doubled-doubled-requires c = c.requires.tabled
 
 pub shape_of-room-in_default : goal.shape_of-room-in_default
-shape_of-room-in_default c = finished-long c.requires.roomy (returns c)
+shape_of-room-in_default c = finished-long c.requires.roomy (returns-in_default c)

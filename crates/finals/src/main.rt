@@ -7,11 +7,11 @@ ghost use Rattle.intervals.specs.Table.{Tabled};
 
 use grid::limits::{BRACKET_ROOM, LINES, SIDE};
 use grid::lines::{Interval, Line};
+use input::read_full;
 use intervals::dependent::dependent;
 use intervals::final_set::final_set;
 use intervals::reduce::reduce;
 use intervals::{Found, Table, table};
-use input::read_full;
 use std::io;
 
 // A longer text is cut off here, so the program ends on endless input too.

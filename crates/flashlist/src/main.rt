@@ -4,8 +4,8 @@
 mod answer;
 
 use answer::answer;
-use job::room::TEXT_ROOM;
 use input::read_full;
+use job::room::TEXT_ROOM;
 use printed::outcome::PRINT_ROOM;
 use std::io;
 

@@ -147,7 +147,13 @@ class Fn:
                 rest = [rest[0], ps[k - 1]] + rest[k + 1:]
         if callee and len(rest) > 1 and rest[0] == "ensures" and rest[1].isdigit():
             en = LABELS.get(callee, ([], []))[0]
-            if len(en) > 1 and int(rest[1]) < len(en):
+            k = 1
+            while k < len(rest) and rest[k] == "1" and k < len(en):
+                k += 1
+            if len(en) > 2 and len(rest) > 2 and rest[1] == "1" and rest[2].isdigit() and (k - 1 < len(en) - 1 and k < len(rest) and rest[k] == "0" or k - 1 == len(en) - 1):
+                last = k - 1 == len(en) - 1
+                rest = ["ensures", en[k - 1]] + rest[k if last else k + 1:]
+            elif len(en) > 1 and int(rest[1]) < len(en):
                 rest = ["ensures", en[int(rest[1])]] + rest[2:]
         return rest
 
@@ -449,7 +455,7 @@ def turn(crate, fn, entry, folder):
             for p in sub:
                 if re.search(r"λ [^.]*(?<![^\s(])" + re.escape(p) + r"(?=[\s.)])|\(" + re.escape(p) + r" :", b):
                     F.left.append(f"{name}: {p} is bound inside")
-            b = re.sub(r"(?<![^\s(){};,@])([^\s(){}.;,@\"«»`]+)(?=[\s.(){};,]|$)", lambda m: sub.get(m[1], m[1]), b)
+            b = re.sub(r"(?<![^\s(){};,@])([^\s(){}.;,@\"«»`]+)(?=[\s.(){};,]|$)(?! = )", lambda m: sub.get(m[1], m[1]), b)
             invs.append((note, f"{kind}-{new}", unf, b))
             continue
         m = re.match(r"tie\.Need-(\S+)", sig)

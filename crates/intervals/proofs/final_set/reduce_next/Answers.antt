@@ -23,8 +23,8 @@ note_bracket-requires c =
     let B = c.bracket in
     some-found (leftmost g.last.0 (set_of g.last.0 g.t.now)) B.result c.in-At.d B.ensures c.in-At.is in
     let pre = c.requires in
-    let l = found-lines pre.0 (found) in
-    (omega (arith, l), omega (arith, l), found-room pre.0 (found) c.args.n c.args.room.now pre.1)
+    let l = found-lines pre.tabled (found) in
+    (omega (arith, l), omega (arith, l), found-room pre.tabled (found) c.args.n c.args.room.now pre.bracket_record_in_bounds)
 
 pub returns : goal.returns
 returns c =

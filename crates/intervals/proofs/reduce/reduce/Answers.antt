@@ -13,6 +13,7 @@ use Rattle.intervals.specs.Reach.{reach}
 use Rattle.intervals.proofs.TableLaws.{left_as, changed-listed}
 use Rattle.intervals.proofs.ReduceTurns.{Turn, start, level, jump, finish}
 use Rattle.intervals.proofs.reduce.reduce.Goals as goal
+use Rattle.intervals.proofs.reduce.reduce.Goals.{then-reached-next, else-reached-next}
 
 pub loop-l-init : goal.loop-l-init
 loop-l-init c = let a = c.args in
@@ -38,17 +39,17 @@ loop-l-preserved c = let a = c.args in
     let q = next.result.0 in
     let found : q ≡ reach (set_of n c.loop-l.t) c.loop-l.l c.loop-l.outer.right.0 a.d.right.0 = ap (λ x. x.0) next.ensures in
     let Next : List ℕ → Span → Type 0 = Turn n a.d.left.0 a.d.right.0 a.t.now (c.loop-l.l + 1) in
-    ⊎_elim
-    (λ w.
-    subst⁻¹ (λ t. Next t (span_of c.if-reached-next.outer)) w.6
-    (subst⁻¹ (λ o. Next w.5.last.0 (span_of o)) w.7
-    (jump T q found c.loop-l-test.true w.0.taken w.2.last.0 w.5.last.0
-    w.2.ensures
-    (w.5.ensures ∙ ap (λ i. table_of (with n (span_of i) (set_of n w.2.last.0))) w.4.ensures))))
-    (λ w.
-    subst⁻¹ (λ t. Next t (span_of c.if-reached-next.outer)) w.1
-    (subst⁻¹ (λ o. Next c.loop-l.t (span_of o)) w.2 (level T q found w.0.left)))
-    c.if-reached-next.branch
+    elim c.if-reached-next.branch [
+      | then-reached-next w ↦
+          subst⁻¹ (λ t. Next t (span_of c.if-reached-next.outer)) w.t-is
+          (subst⁻¹ (λ o. Next w.put.new.t (span_of o)) w.outer-is
+          (jump T q found c.loop-l-test.true w.if-reached-next.true w.take.new.t w.put.new.t
+          w.take.ensures
+          (w.put.ensures ∙ ap (λ i. table_of (with n (span_of i) (set_of n w.take.new.t))) w.meet.ensures)))
+      | else-reached-next w ↦
+          subst⁻¹ (λ t. Next t (span_of c.if-reached-next.outer)) w.t-is
+          (subst⁻¹ (λ o. Next c.loop-l.t (span_of o)) w.outer-is (level T q found w.if-reached-next.false))
+    ]
 
 pub returns : goal.returns
 returns c = finish c.loop-l.invariant c.loop-l-test.false

@@ -101,4 +101,4 @@ pub doubled-doubled-requires : goal.doubled-doubled-requires
 doubled-doubled-requires c = c.requires.tabled
 
 pub shape_of-room-in_default : goal.shape_of-room-in_default
-shape_of-room-in_default c = finished-long c.requires.roomy (returns c)
+shape_of-room-in_default c = finished-long c.requires.roomy (returns-in_default c)

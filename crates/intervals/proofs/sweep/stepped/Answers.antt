@@ -15,47 +15,42 @@ use Rattle.intervals.proofs.TopLines.{two-greatest}
 use Rattle.intervals.proofs.SweepSteps.{below, step-found, step_twice, step-once, step_past}
 use Rattle.intervals.proofs.sweep.stepped.Goals as goal
 
--- where the row's greatest line is known
-module _ (f : tie.After-furthest) where
-  abbrev at : tie.Start
-  at = f.before.before.before
-
-  abbrev n : ℕ
-  n = at.args.last.0
-
-  abbrev s : List Span
-  s = set_of n at.args.t.now
-
-  listed : Listed n s
-  listed = set-listed n at.args.t.now
-
-  abbrev l : ℕ
-  l = at.args.left.0
-
-  abbrev b : ℕ
-  b = at.args.right.0
-
-  abbrev greater : ℕ
-  greater = f.furthest.result.0
-
-  -- the row's next line, whether it is looked for or not
-  abbrev next : ℕ
-  next = reach s l 0 (greater - 1)
-
-  row : (p : ℕ) → line p ≡ line next → Greatest 0 (ends_beyond s l b) (tops greater p)
-  row p e = two-greatest n listed l b greater p f.furthest.ensures e
+-- the row's greatest line, and the next one, whether it is looked for or not
+row : (n : ℕ) (t : List ℕ) (l b greater p : ℕ) → line greater ≡ line (reach (set_of n t) l 0 b) → line p ≡ line (reach (set_of n t) l 0 (greater - 1))
+    → Greatest 0 (ends_beyond (set_of n t) l b) (tops greater p)
+row n t l b greater p f e = two-greatest n (set-listed n t) l b greater p f e
 
 pub returns-then-greater-once : goal.returns-then-greater-once
-returns-then-greater-once c = step_past (n c) (listed c) (b c) (at c).requires.1.0 (at c).requires.1.1 (row c (next c) refl) (omega arith)
+returns-then-greater-once c =
+    let a = c.args in
+    let n = a.last.0 in
+    let q = c.furthest-greater.result.0 in
+    let r = row n a.t.now a.left.0 a.right.0 q (reach (set_of n a.t.now) a.left.0 0 (q - 1)) c.furthest-greater.ensures refl in
+    step_past n (set-listed n a.t.now) a.right.0 c.requires.left_lt_right c.requires.swept r (omega arith)
 
 pub returns-then-greater-twice : goal.returns-then-greater-twice
-returns-then-greater-twice c = step-once (n c) (listed c) (b c) (at c).requires.1.0 (at c).requires.1.1 (row c (next c) refl) (omega arith) (omega arith)
+returns-then-greater-twice c =
+    let a = c.args in
+    let n = a.last.0 in
+    let q = c.furthest-greater.result.0 in
+    let r = row n a.t.now a.left.0 a.right.0 q (reach (set_of n a.t.now) a.left.0 0 (q - 1)) c.furthest-greater.ensures refl in
+    step-once n (set-listed n a.t.now) a.right.0 c.requires.left_lt_right c.requires.swept r (omega arith) (omega arith)
 
 pub overflow_sub-greater : goal.overflow_sub-greater
-overflow_sub-greater c = omega (arith, below (n c) (listed c) (b c) (at c).requires.1.0 (at c).requires.1.1)
+overflow_sub-greater c =
+    let a = c.args in
+    omega (arith, below a.last.0 (set-listed a.last.0 a.t.now) a.right.0 c.requires.left_lt_right c.requires.swept)
 
 pub returns-then-once-lesser : goal.returns-then-once-lesser
-returns-then-once-lesser c = step-found (n c) (listed c) (b c) (at c).requires.1.0 (at c).requires.1.1 (row c c.furthest-lesser.result.0 c.furthest-lesser.ensures) (omega arith) (omega arith)
+returns-then-once-lesser c =
+    let a = c.args in
+    let n = a.last.0 in
+    let r = row n a.t.now a.left.0 a.right.0 c.furthest-greater.result.0 c.furthest-lesser.result.0 c.furthest-greater.ensures c.furthest-lesser.ensures in
+    step-found n (set-listed n a.t.now) a.right.0 c.requires.left_lt_right c.requires.swept r (omega arith) (omega arith)
 
 pub returns : goal.returns
-returns c = step_twice (n c) (listed c) (b c) (at c).requires.1.0 (at c).requires.1.1 (row c c.furthest-lesser.result.0 c.furthest-lesser.ensures) (omega arith) (omega arith)
+returns c =
+    let a = c.args in
+    let n = a.last.0 in
+    let r = row n a.t.now a.left.0 a.right.0 c.furthest-greater.result.0 c.furthest-lesser.result.0 c.furthest-greater.ensures c.furthest-lesser.ensures in
+    step_twice n (set-listed n a.t.now) a.right.0 c.requires.left_lt_right c.requires.swept r (omega arith) (omega arith)

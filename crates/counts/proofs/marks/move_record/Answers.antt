@@ -1,16 +1,15 @@
 -- `move_record` meets its contract: two bytes, which no other record has.
+use Rattle.std.proofs.Common.{arith}
 use mathlib.Core.Path.{◌≡◌, refl, ap, ap₂, ◌∙◌}
 use mathlib.Core.List.{List}
 use Prim.Native.Nat.{ℕ, ◌+◌, ◌*◌, ◌≤◌, ◌<◌}
-use native.Mathlib.Omega.{arith}
 use borrow.Author.Rules.{rules}
 use lib.ListN.{length, get_or, set, length-set}
 use lib.Seq.{get_or-set_same, get_or-set_other}
 use Rattle.method.specs.Intervals.{span}
 use Rattle.grid.specs.Limits.{bracket_record}
 use Rattle.counts.specs.Spans.{Moved}
-use Rattle.counts.proofs.marks.move_record.Statement.{statement}
-use Rattle.counts.proofs.marks.move_record.Tie as tie
+use Rattle.counts.proofs.marks.move_record.Goals as goal
 
 moved : (room : List ℕ) (k j : ℕ) → j ≤ k → k * bracket_record + 1 < length room
     → Moved room k j (set (set room (j * bracket_record) (get_or room (k * bracket_record) 0)) (j * bracket_record + 1) (get_or room (k * bracket_record + 1) 0))
@@ -31,17 +30,8 @@ moved room k j h u =
           (get_or-set_other first (j * bracket_record + 1) (z * bracket_record + 1) y 0 (λ e. d (omega arith)) ∙ get_or-set_other room (j * bracket_record) (z * bracket_record + 1) x 0 (λ e. omega arith));
     }
 
-pub move-record-spec : {M : Type 1} → statement M
-move-record-spec =
-    tie.close
-    (tie.spec
-    (λ c. search rules)
-    (λ c. search rules)
-    (λ c. search rules)
-    (λ c. search rules)
-    (λ c. search rules)
-    (λ c. search rules)
-    (λ c. search rules)
-    (λ c. simp length-set (omega arith))
-    (λ c. search rules)
-    (λ c. let a = c.before.before.args in moved a.list.now a.k a.j (omega arith) (omega arith)))
+pub bounds-list-to-2 : goal.bounds-list-to-2
+bounds-list-to-2 c = simp length-set (omega arith)
+
+pub returns : goal.returns
+returns c = let a = c.args in moved a.list.now a.k a.j (omega arith) (omega arith)

@@ -62,6 +62,21 @@ def labels():
     return out
 
 
+def source_names(crate, fn, text):
+    """Paths' segments that are parameters or variables of the function, as the source spells them."""
+    parts = fn.split("/")
+    for f in (f"crates/{crate}/src/{parts[0]}.rt", f"crates/{crate}/src/lib.rt", f"crates/{crate}/src/main.rt"):
+        if not os.path.exists(f):
+            continue
+        with open(f, encoding="utf-8") as it:
+            m = re.search(r"(?m)^( *)(?:pub )?(?:extern \"C\" )?fn " + re.escape(parts[-1]) + r"\b.*?^\1\}", it.read(), re.S)
+        if m:
+            for w in set(re.findall(r"[A-Za-z]\w*_\w+", m[0])):
+                text = re.sub(r"(?<=\.)" + re.escape(w.replace("_", "-")) + r"(?=[\s.(){};,]|$)", w, text)
+            return text
+    return text
+
+
 LABELS = {}
 
 
@@ -175,7 +190,7 @@ class Fn:
             if not m:
                 break
             segs = m[2].split(".")
-            if segs[0] in env and "given" in segs:
+            if segs[0] in env and ("given" in segs or re.search(r"(?<![^\s(){};,@])" + re.escape(m[1]) + r"\.(?:new|auto|came|given|ensures\.\d)(?=[\s.(){};,]|$)", text[m.end():])):
                 # what a pattern bound, taken whole: each use of it is a path of its own
                 post = re.sub(r"(?<![^\s(){};,@])" + re.escape(m[1]) + r"(?=[\s.(){};,]|$)", lambda _: m[2], text[m.end():])
                 text = text[: m.start()] + post
@@ -376,6 +391,7 @@ def with_lets(F, t, macros):
 
     def plain(x):
         for n in used:
+            x = re.sub(r"\(" + re.escape(n) + r" c\)", n, x)
             x = re.sub(word(n), n, x)
         return x
 
@@ -595,6 +611,11 @@ def turn(crate, fn, entry, folder):
                 if callee.split("::")[-1] == m[1] and len(LABELS.get(callee, ([], []))[1]) > 1:
                     t = recorded(t, LABELS[callee][1])
                     break
+        # a field of our own records that an earlier script took for the kit's
+        t = re.sub(r"(?<=\))\.ranges(?=[\s(){};,]|$)", ".fits", t)
+        for n in macros:
+            t = re.sub(r"(?<![^\s(){};,@])" + re.escape(n) + r"\.ranges(?=[\s(){};,]|$)", n + ".fits", t)
+        t = source_names(crate, fn, t)
         unf = joined(unf, more)
         if re.fullmatch(r"\s*(search rules|search needs)\s*", t):
             continue

@@ -84,6 +84,7 @@ class Fn:
     def __init__(self, crate, fn, entry):
         self.crate, self.fn, self.e = crate, fn, entry
         self.left = []
+        self.aliases = {}  # helpers that go from one place to another
         self.places = {}  # old place -> (prev, old field, new field, index)
         for i, p in enumerate(entry["places"]):
             self.places[norm(p[0])] = (p[1] and norm(p[1]), norm(p[2][0]), p[2][1], i)
@@ -115,6 +116,8 @@ class Fn:
         if i == len(segs):
             return (place, deep), None
         f, rest = norm(segs[i]), segs[i + 1:]
+        if f == "pre":
+            segs, f = segs[:i] + ["requires"] + segs[i + 1:], "requires"
         if f == "requires" and self.e["pre"]:
             fields = self.e["pre"]["fields"]
             k = 0
@@ -125,6 +128,8 @@ class Fn:
             if k < len(rest) and rest[k] == "0":
                 return None, ".".join([var, "requires", fields[k]] + rest[k + 1:])
             self.left.append("requires taken whole")
+        if f in ("args", "ranges", "fn") and rest:
+            rest = [rest[0].replace("-", "_")] + rest[1:]
         if f in ("args", "requires", "ranges", "fn"):
             # a parameter's name is the source's again
             if f != "requires" and rest:
@@ -143,11 +148,11 @@ class Fn:
                 arms = self.e["arms"][idx]
                 best = None
                 for new, fld, path in arms[2] if arms else []:
-                    if norm(fld) == f and rest[: len(path)] == path and not new.endswith("-own") and (best is None or len(path) > len(best[1])):
+                    if norm(fld).lower() == f.lower() and rest[: len(path)] == path and not new.endswith("-own") and (best is None or len(path) > len(best[1])):
                         best = (new, path)
                 if best is not None:
                     found.append((abs(j - deep), j > deep, ".".join([var, arms[0], best[0]] + rest[len(best[1]):])))
-                elif f == oldf:
+                elif f.lower() == oldf.lower():
                     found.append((abs(j - deep), j > deep, ".".join([var, newf] + self.stepped(idx, rest))))
             if found:
                 break
@@ -180,8 +185,13 @@ class Fn:
 
     def body(self, text, env, macros, depth=0):
         """text with each path from a variable of env (a place) turned; env: variable -> place."""
-        out, at = "", 0
         env = dict(env)
+        for name, place in self.aliases.items():
+            word = r"(?<![^\s(){};,@])" + re.escape(name) + r" [^\s(){};,]+"
+            fresh = f"{name}§{place}§0"
+            text = re.sub(r"\(" + word[len("(?<![^\\s(){};,@])") - 1:] + r"\)" if False else r"\(" + re.escape(name) + r" [^\s(){};,]+\)", lambda _: fresh, text)
+            text = re.sub(word, lambda _: fresh, text)
+            env[fresh] = (place, 0)
         # lets that name a place
         pos = 0
         pattern = re.compile(r"let ([^\s:=]+) = ([^\s(){};,]+?)\s+in\b\s*")
@@ -219,7 +229,7 @@ class Fn:
 
         text = PATH.sub(one, text)
         for v in env:
-            if "§" in v:
+            if v != "c":
                 text = re.sub(r"(?<![^\s(){};,@])" + re.escape(v) + r"(?=[\s(){};,]|$)", "c", text)
         return text
 
@@ -508,6 +518,10 @@ def turn(crate, fn, entry, folder):
             m = re.match(r"\(([^\s:]+) : tie\.([^\s)]+)[^)]*\)\s*→\s*(.*)|tie\.(\S+)[^→]*→\s*(.*)", sig, re.S)
             place = norm(m[2] or m[4])
             ty = m[3] or m[5]
+            to = re.fullmatch(r"tie\.(\S+)(?: (?:invariant|decreases)\S+)*", ty.strip())
+            if to:
+                F.aliases[name] = norm(to[1])
+                continue
             if "tie." in ty:
                 F.left.append(f"helper {name} takes two places")
             macros[name] = (

@@ -499,6 +499,10 @@ def turn(crate, fn, entry, folder):
         m = re.match(r"tie\.Need-(\S+)", sig)
         if m:
             old = bare_need(m[1])
+            if old not in F.needs and re.fullmatch(r"\w+-t\d+", old):
+                # a goal with no name of the source's: the only one of its kind
+                kin = [o for o in F.needs if re.fullmatch(old.split("-")[0] + r"-t\d+", o)]
+                old = kin[0] if len(kin) == 1 else old
             if old not in F.needs:
                 F.left.append(f"no goal {old}: {body[:60]!r}")
                 continue
@@ -625,6 +629,7 @@ def turn(crate, fn, entry, folder):
                 if callee.split("::")[-1] == m[1] and len(LABELS.get(callee, ([], []))[1]) > 1:
                     t = recorded(t, LABELS[callee][1])
                     break
+        t = re.sub(r"not[-_](?:true|false) _ (c\.[^\s()]+\.(?:true|false))", r"\1", t)
         # a field of our own records that an earlier script took for the kit's
         t = re.sub(r"(?<=\))\.ranges(?=[\s(){};,]|$)", ".fits", t)
         for n in macros:

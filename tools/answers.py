@@ -500,6 +500,9 @@ def turn(crate, fn, entry, folder):
                 F.left.append(f"helper {name}: several clauses")
                 continue
             m = re.match(r"\(([^\s:]+) : tie\.([^\s)]+)[^)]*\)\s*→\s*(.*)|tie\.(\S+)[^→]*→\s*(.*)", sig, re.S)
+            if m is None:
+                F.left.append(f"helper {name}: its place is not read")
+                continue
             place = norm(m[2] or m[4])
             ty = m[3] or m[5]
             to = re.fullmatch(r"tie\.(\S+)(?: (?:invariant|decreases)\S+)*", ty.strip())

@@ -18,8 +18,15 @@ fn main() {
     let here = PathBuf::from(std::env::var_os("CARGO_MANIFEST_DIR").unwrap());
     let root = here.parent().unwrap();
     let out = PathBuf::from(std::env::var_os("OUT_DIR").unwrap());
-    for part in ["crates", "crates.txt", "tools/archives", "tools/x86-64", "include", "rust/hand", "rust/far"] {
+    for part in ["crates.txt", "tools/archives", "tools/x86-64", "include", "rust/hand", "rust/far"] {
         rerun_when_changed(&root.join(part));
+    }
+    // a crate's out/ is what rt makes, and no source
+    for entry in std::fs::read_dir(root.join("crates")).unwrap() {
+        let folder = entry.unwrap().path();
+        for part in ["src", "specs", "proofs"].map(|part| folder.join(part)).iter().filter(|part| part.is_dir()) {
+            rerun_when_changed(part);
+        }
     }
     let library = PathBuf::from(said(&mut Command::new(root.join("tools/archives"))).trim_end());
     let timed = PathBuf::from(said(Command::new(root.join("tools/archives")).arg("timed")).trim_end());

@@ -69,12 +69,16 @@ class Fn:
     def __init__(self, crate, fn, entry):
         self.crate, self.fn, self.e = crate, fn, entry
         self.left = []
+        self.aliases = {}  # helpers that go from one place to another
         self.places = {}  # old place -> (prev, old field, new field, index)
         for i, p in enumerate(entry["places"]):
             self.places[norm(p[0])] = (p[1] and norm(p[1]), norm(p[2][0]), p[2][1], i)
         self.needs = {}
         for (old, new), at in zip(entry["needs"], entry["asked_at"]):
             self.needs[bare_need(old)] = (new, norm(at[0]))
+            if bare_need(old).startswith("part-"):
+                # a range's goals have also had this name
+                self.needs.setdefault("slice-bounds-" + bare_need(old)[5:], (new, norm(at[0])))
         self.order = [bare_need(o) for o, _ in entry["needs"]]
         self.loops = {norm(l[0][0]): (l[0][1], l[1], ch) for l, ch in zip(entry["loops"], entry["changed"])}
         self.loop_old = {norm(l[0][0]): l[0][0] for l in entry["loops"]}
@@ -97,6 +101,8 @@ class Fn:
         if i == len(segs):
             return (place, deep), None
         f, rest = norm(segs[i]), segs[i + 1:]
+        if f == "pre":
+            segs, f = segs[:i] + ["requires"] + segs[i + 1:], "requires"
         if f == "requires" and self.e["pre"]:
             fields = self.e["pre"]["fields"]
             k = 0
@@ -107,7 +113,12 @@ class Fn:
             if k < len(rest) and rest[k] == "0":
                 return None, ".".join([var, "requires", fields[k]] + rest[k + 1:])
             self.left.append("requires taken whole")
+        if f in ("args", "ranges", "fn") and rest:
+            rest = [rest[0].replace("-", "_")] + rest[1:]
         if f in ("args", "requires", "ranges", "fn"):
+            # a parameter's name is the source's again
+            if f != "requires" and rest:
+                rest = [rest[0].replace("-", "_")] + rest[1:]
             return None, ".".join([var, segs[i]] + rest)
         chain = self.chain(place)
         if f.startswith("shared-slice-known") or f.startswith("slice-known"):
@@ -122,11 +133,11 @@ class Fn:
                 arms = self.e["arms"][idx]
                 best = None
                 for new, fld, path in arms[2] if arms else []:
-                    if norm(fld) == f and rest[: len(path)] == path and not new.endswith("-own") and (best is None or len(path) > len(best[1])):
+                    if norm(fld).lower() == f.lower() and rest[: len(path)] == path and not new.endswith("-own") and (best is None or len(path) > len(best[1])):
                         best = (new, path)
                 if best is not None:
                     found.append((abs(j - deep), j > deep, ".".join([var, arms[0], best[0]] + rest[len(best[1]):])))
-                elif f == oldf:
+                elif f.lower() == oldf.lower():
                     found.append((abs(j - deep), j > deep, ".".join([var, newf] + self.stepped(idx, rest))))
             if found:
                 break
@@ -159,8 +170,13 @@ class Fn:
 
     def body(self, text, env, macros, depth=0):
         """text with each path from a variable of env (a place) turned; env: variable -> place."""
-        out, at = "", 0
         env = dict(env)
+        for name, place in self.aliases.items():
+            word = r"(?<![^\s(){};,@])" + re.escape(name) + r" [^\s(){};,]+"
+            fresh = f"{name}§{place}§0"
+            text = re.sub(r"\(" + word[len("(?<![^\\s(){};,@])") - 1:] + r"\)" if False else r"\(" + re.escape(name) + r" [^\s(){};,]+\)", lambda _: fresh, text)
+            text = re.sub(word, lambda _: fresh, text)
+            env[fresh] = (place, 0)
         # lets that name a place
         pos = 0
         pattern = re.compile(r"let ([^\s:=]+) = ([^\s(){};,]+?)\s+in\b\s*")
@@ -169,6 +185,12 @@ class Fn:
             if not m:
                 break
             segs = m[2].split(".")
+            if segs[0] in env and "given" in segs:
+                # what a pattern bound, taken whole: each use of it is a path of its own
+                post = re.sub(r"(?<![^\s(){};,@])" + re.escape(m[1]) + r"(?=[\s.(){};,]|$)", lambda _: m[2], text[m.end():])
+                text = text[: m.start()] + post
+                pos = m.start()
+                continue
             if segs[0] in env:
                 place, t = self.walk(env[segs[0]], segs[1:], "c")
                 if t is None:
@@ -192,7 +214,7 @@ class Fn:
 
         text = PATH.sub(one, text)
         for v in env:
-            if "§" in v:
+            if v != "c":
                 text = re.sub(r"(?<![^\s(){};,@])" + re.escape(v) + r"(?=[\s(){};,]|$)", "c", text)
         return text
 
@@ -480,6 +502,10 @@ def turn(crate, fn, entry, folder):
             m = re.match(r"\(([^\s:]+) : tie\.([^\s)]+)[^)]*\)\s*→\s*(.*)|tie\.(\S+)[^→]*→\s*(.*)", sig, re.S)
             place = norm(m[2] or m[4])
             ty = m[3] or m[5]
+            to = re.fullmatch(r"tie\.(\S+)(?: (?:invariant|decreases)\S+)*", ty.strip())
+            if to:
+                F.aliases[name] = norm(to[1])
+                continue
             if "tie." in ty:
                 F.left.append(f"helper {name} takes two places")
             macros[name] = (

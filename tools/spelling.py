@@ -2,7 +2,8 @@
 """Spells the repository's own definitions and lemmas as the Rattle library does: words in snake case, facts and types in camel case, a dash between two names alone.
 
 usage: spelling.py [--list] [FOLDER]      once, in the commit that port.py made; --list writes nothing and prints the table
-It goes by whole words, in definitions, proofs, clauses, must-fail edits and the code spans of the pages. Names of src/, strings and generated names stay.
+It goes by whole words, in definitions, proofs, clauses, must-fail edits and the code spans of the pages. Names of src/, strings and generated names stay,
+and in each file the names that it takes from a library: mathlib has an `and-true` of its own.
 """
 
 import collections
@@ -13,6 +14,7 @@ import sys
 WORD = re.compile(r'[^\s(){}.;,@"«»`]+')
 DECLARED = re.compile(r"(?m)^( *)((?:abbrev|unfoldable|pub|ruleset|data|record) )*([^\s(){}.;,@\"«»=|]+)((?: [^\s(){}.;,@\"«»=|:]+)*)((?: [({][^{}()\n]*[)}])*) :(?= |$)([^\n]*(?:\n(?=\1 +\S)[^\n]*)*)")
 USED = re.compile(r"ghost\s+use\b[^;]*;")
+TAKEN = re.compile(r"\buse\s+([^\s{};]+)\.\{([^{}]*)\}")
 CLAUSE = re.compile(r"(?m)^\s*(?:requires|ensures|ghost)\b[^{\n]*\{")
 # words of the library and of generated text that are names, so that a dash may join one to another
 STD = set("length take drop map filter append cons nil suc zero add sub mul div mod pow min max set get_or replicate reverse sum not and or eq cond some none first keep count any all gather from down".split())
@@ -114,6 +116,16 @@ def turned(text, rows):
     return WORD.sub(lambda m: rows.get(m[0], m[0]), text)
 
 
+def left(text, rows, own):
+    """The table without the names that a file takes from elsewhere than the crates of the repository."""
+    taken = set()
+    for path, names in TAKEN.findall(text):
+        root, _, rest = path.partition(".")
+        if root != "tie" and not (root == "Rattle" and rest.partition(".")[0] in own):
+            taken |= set(WORD.findall(names))
+    return {a: b for a, b in rows.items() if a not in taken}
+
+
 def antt(text, rows):
     """The code whole; of a comment the words in camel case and the code spans."""
     camel = {a: b for a, b in rows.items() if "-" not in a}
@@ -141,6 +153,15 @@ def rt(text, rows):
     return re.sub(r"(?m)//.*$", lambda m: re.sub(r"`[^`]*`", lambda s: turned(s[0], rows), m[0]), text)
 
 
+def named_by(path, text):
+    """The text whose imports a file goes by: a must-fail edit by those of the file that it changes."""
+    file = re.search(r"(?m)^file: *(\S+)$", text) if path.endswith(".edit") else None
+    if not file:
+        return text
+    with open(os.path.join(os.path.dirname(os.path.dirname(path)), file[1]), encoding="utf-8") as f:
+        return f.read()
+
+
 def page(text, rows):
     return re.sub(r"`[^`\n]*`", lambda s: turned(s[0], rows), text)
 
@@ -155,11 +176,12 @@ def main(argv):
     if listed:
         return
     crates = os.path.join(top, "crates")
+    own = set(os.listdir(crates))
     for ends, how, where in [(".antt", antt, crates), (".rt", rt, crates), (".edit", turned, crates), (".md", page, os.path.join(top, "docs")), ("README.md", page, top)]:
         for p in texts(where, ends):
             with open(p, encoding="utf-8") as f:
                 old = f.read()
-            new = how(old, rows)
+            new = how(old, left(named_by(p, old), rows, own))
             if new != old:
                 with open(p, "w", encoding="utf-8") as f:
                     f.write(new)

@@ -6,7 +6,7 @@ import tempfile
 
 from testing import ROOT, contents, path
 
-# As rt does, it links the program before it says that all is well.
+# As `rt run` does, it links the program, runs it, and ends as that ends; what it says itself goes to standard error.
 RT = """#!/bin/sh
 echo "$*" >>"$STANDIN/calls"
 echo $$ >"$STANDIN/rt.pid"
@@ -15,12 +15,13 @@ while [ -n "${STANDIN_WAIT:-}" ] && [ ! -e "$STANDIN/go" ]; do
 done
 for crate in lists flashlist; do
     sleep "${STANDIN_PAUSE:-0}"
-    echo "rt: $crate proved (0 s)"
+    echo "crate $crate: modules loaded=0 checked=1" >&2
 done
-mkdir -p target/bin && cp "$STANDIN/program" target/bin/flashlist || exit 2
-[ -z "${STANDIN_STATUS:-}" ] && exit
-echo "rt: flashlist: what the program wrote is not what its file 'stdout' has"
-exit "$STANDIN_STATUS"
+mkdir -p out && cp "$STANDIN/program" out/flashlist || exit 2
+echo "rt: running out/flashlist" >&2
+cat >"$STANDIN/given"
+printf '%s' "${STANDIN_WRITES:-as ruled}"
+exit "${STANDIN_STATUS:-0}"
 """
 PROGRAM = """#!/bin/sh
 cat >/dev/null
@@ -48,9 +49,11 @@ class Checkout:
         shutil.copy(os.path.join(ROOT, "flashlist"), self.root)
         shutil.copytree(os.path.join(ROOT, "tools"), os.path.join(self.root, "tools"), ignore=shutil.ignore_patterns("__pycache__"))
         put(self.inside("tools/x86-64"), '#!/bin/sh\nshift\nexec "$@"\n', 0o755)
-        put(self.inside("crates.txt"), "# a line for each crate\nlists:\nflashlist: lists libc\n")
+        put(self.inside("crates.txt"), "# a line for each crate\nlists:\nlists_c staticlib: lists\nflashlist: lists thiserror\n")
         put(self.inside("crates/lists/src/lib.rt"), "// lists\n")
         put(self.inside("crates/flashlist/src/main.rt"), "// flashlist\n")
+        put(self.inside("crates/flashlist/stdin"), "the example\n")
+        put(self.inside("crates/flashlist/stdout"), "as ruled")
         put(os.path.join(self.standin, "bin", "rt"), RT, 0o755)
         put(os.path.join(self.standin, "program"), PROGRAM, 0o755)
         self.script, self.job = self.inside("flashlist"), path("one-square", ".job")
@@ -71,13 +74,17 @@ class Checkout:
         """What the program prints from now on, whatever it is given."""
         put(os.path.join(self.standin, "prints"), text)
 
+    def said(self, name):
+        """What a stand-in noted."""
+        try:
+            with open(os.path.join(self.standin, name), encoding="ascii") as file:
+                return file.read()
+        except FileNotFoundError:
+            return ""
+
     def calls(self):
         """How often rt was called."""
-        try:
-            with open(os.path.join(self.standin, "calls"), encoding="ascii") as file:
-                return len(file.readlines())
-        except FileNotFoundError:
-            return 0
+        return len(self.said("calls").splitlines())
 
     def start(self, *words, env=None, **more):
         more = {"stdin": subprocess.DEVNULL, "stdout": subprocess.PIPE, "stderr": subprocess.PIPE, "cwd": self.root, **more}

@@ -7,7 +7,8 @@ import traceback
 ROOT = os.path.dirname(os.path.dirname(os.path.dirname(os.path.abspath(__file__))))
 EXAMPLES = os.path.join(ROOT, "examples")
 NAMES = sorted(name[:-4] for name in os.listdir(EXAMPLES) if name.endswith(".job"))
-LONGEST = 120
+# The seconds that a test may take, and one that may have to prove and build a program first.
+LONGEST, WITH_PROOFS = 120, 3600
 
 
 def path(name, ending):
@@ -27,10 +28,16 @@ def named(functions):
     return [(function.__name__.replace("_", " "), function) for function in functions]
 
 
+def builds(test):
+    """Marks a test that may have to prove and build a program."""
+    test.longest = WITH_PROOFS
+    return test
+
+
 def main(tests):
     """Runs tests, pairs of a name and a function; ends with the line 'N passed, M failed'."""
     def late(*_):
-        raise TimeoutError(f"still running after {LONGEST} s")
+        raise TimeoutError(f"still running after {longest} s")
 
     signal.signal(signal.SIGALRM, late)
     # where the gate runs in the background they are ignored, and so they would be by what is tested
@@ -38,7 +45,8 @@ def main(tests):
     signal.signal(signal.SIGTERM, lambda *_: sys.exit(128 + signal.SIGTERM))
     passed = failed = 0
     for name, test in tests:
-        signal.alarm(LONGEST)
+        longest = getattr(test, "longest", LONGEST)
+        signal.alarm(longest)
         try:
             test()
             passed += 1

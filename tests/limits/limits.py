@@ -37,12 +37,9 @@ def main():
     crates = pathlib.Path(sys.argv[1] if len(sys.argv) > 1 else "crates")
     bad = 0
     looked = 0
-    for path in sorted(crates.rglob("*")):
+    for path in sorted(path for part in ("src", "specs", "proofs") for path in crates.glob(f"*/{part}/**/*")):
         name = path.relative_to(crates).as_posix()
-        parts = name.split("/")
-        if path.suffix not in (".rt", ".antt") or parts[1] not in ("src", "specs", "proofs"):
-            continue
-        if name in HOME or name in EXAMPLES:
+        if path.suffix not in (".rt", ".antt") or name in HOME or name in EXAMPLES:
             continue
         looked += 1
         comment = "//" if path.suffix == ".rt" else "--"

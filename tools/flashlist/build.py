@@ -1,8 +1,10 @@
 """A program of this repository, proved and built from the sources as they are: on first use and after a change, by one
 run at a time.
 
-A program is linked before it is tested, so that it is there says little. A stamp, written once rt has returned 0,
-holds the sums of the sources and of the program that came of them; a program is taken only where both are as then."""
+`rt run` in the crate's folder proves, links and runs a program, which stays in the crate's out/. It is run on the crate's
+own example, the files stdin, args and data/, and has to print what the file stdout has. Only then it is copied to
+target/bin, where no later rt changes it. A stamp, written after that, holds the sums of the sources and of the program that
+came of them; a program is taken only where both are as then."""
 import contextlib
 import fcntl
 import functools
@@ -10,8 +12,10 @@ import hashlib
 import os
 import re
 import select
+import shutil
 import signal
 import subprocess
+import tempfile
 import time
 
 from . import streams
@@ -21,6 +25,15 @@ from .progress import Progress
 ROOT = os.path.dirname(os.path.dirname(os.path.dirname(os.path.realpath(__file__))))
 TARGET = os.path.join(ROOT, "target")
 STAMPS = os.path.join(TARGET, "stamps")
+
+
+def crate_path(name, *inside):
+    return os.path.join(ROOT, "crates", name, *inside)
+
+
+def linked_path(name):
+    """Where rt leaves a program."""
+    return crate_path(name, "out", name)
 
 
 def program_path(name):
@@ -38,7 +51,8 @@ def floors(name):
         for line in file:
             crate, listed, below = line.partition("#")[0].partition(":")
             if listed:
-                stands_on[crate.strip()] = below.split()
+                # a word behind the name says what is built of it
+                stands_on[crate.split()[0]] = below.split()
     if name not in stands_on:
         raise Failure(f"crates.txt has no line for {name}")
     found, wanted = [], [name]
@@ -67,9 +81,10 @@ def sources(name):
 
     found = [os.path.join(ROOT, "crates.txt")]
     for crate in floors(name):
-        for folder, folders, files in os.walk(os.path.join(ROOT, "crates", crate), onerror=unreadable):
-            # what begins with a dot is an editor's own
-            folders[:] = sorted(inner for inner in folders if not inner.startswith("."))
+        for folder, folders, files in os.walk(crate_path(crate), onerror=unreadable):
+            # what begins with a dot is an editor's own, and out/ of the crate is rt's
+            made = {"out"} if folder == crate_path(crate) else set()
+            folders[:] = sorted(inner for inner in folders if not inner.startswith(".") and inner not in made)
             found += [os.path.join(folder, file) for file in sorted(files) if not file.startswith(".")]
     return found
 
@@ -142,47 +157,80 @@ def taken(lock):
 
 
 def build(name, lock):
-    """Proves and builds a program; returns where rt said that all is well."""
-    crates, log = floors(name), os.path.join(STAMPS, f"{name}.log")
-    with open(log, "wb") as file:
-        status, last = followed(name, lock, crates, file)
+    """Proves, builds and tries a program, and puts it where it is taken from."""
+    log = os.path.join(STAMPS, f"{name}.log")
+    with open(log, "wb") as file, tempfile.TemporaryFile() as printed:
+        status, last = followed(name, lock, file, printed)
+        printed.seek(0)
+        is_wanted = printed.read() == held(crate_path(name, "stdout"))
+    kept = f"({os.path.relpath(log, ROOT)} has them all)"
     if status != 0:
         how = f"ended with status {status}" if status > 0 else f"was ended by signal {-status}"
-        raise Failure(f"the program could not be built: rt {how}{f', its last words are: {last}' if last else ''} "
-                      f"({os.path.relpath(log, ROOT)} has them all)")
-    if not os.path.exists(program_path(name)):
-        raise Failure(f"the program could not be built: rt ended well and left no {os.path.relpath(program_path(name), ROOT)}")
+        raise Failure(f"the program could not be built: rt {how}{f', its last words are: {last}' if last else ''} {kept}")
+    if not os.path.exists(linked_path(name)):
+        raise Failure(f"the program could not be built: rt ended well and left no {os.path.relpath(linked_path(name), ROOT)}")
+    if not is_wanted:
+        raise Failure(f"the program could not be built: what it wrote is not what {os.path.relpath(crate_path(name, 'stdout'), ROOT)} has")
+    take(name)
 
 
-def followed(name, lock, crates, log):
-    """Runs rt, keeps what it says, and shows on a terminal how far it is. Its status and its last line."""
-    said = b""
-    with started(["rt", "check", name], lock) as rt, Progress() as progress:
-        streams.say(f"proving and building the program (`rt check {name}`); this is done once and can take some minutes")
-        while True:
-            proved = [crate for crate in re.findall(r"^rt: (\S+) proved", said.decode(errors="replace"), re.MULTILINE) if crate in crates]
-            progress.show(f"{len(proved)} of {len(crates)} crates proved" + (f", {proved[-1]} last" if proved else ""))
-            if select.select([rt.stdout], [], [], 0.5)[0]:
-                more = os.read(rt.stdout.fileno(), 1 << 16)
-                if not more:
-                    break
-                log.write(more)
-                said += more
-        status = rt.wait()
+def take(name):
+    """Copies what rt linked, so that nobody finds half a program."""
+    os.makedirs(os.path.dirname(program_path(name)), exist_ok=True)
+    part = f"{program_path(name)}.part"
+    shutil.copy(linked_path(name), part)
+    os.replace(part, program_path(name))
+
+
+def held(path):
+    """What a file holds; nothing where there is none."""
+    try:
+        with open(path, "rb") as file:
+            return file.read()
+    except FileNotFoundError:
+        return b""
+
+
+def example(name):
+    """The words that rt gives to a program after its own, by the crate's files args and data/."""
+    words = held(crate_path(name, "args")).decode("utf-8", "surrogateescape").splitlines()
+    words = [os.path.join("data", word) if word and os.path.exists(crate_path(name, "data", word)) else word for word in words]
+    return ["--", *words] if words else []
+
+
+def followed(name, lock, log, printed):
+    """Runs rt, keeps what it says and what the program prints, and shows on a terminal how far it is. Its status and its last line."""
+    said, crates = b"", floors(name)
+    given = crate_path(name, "stdin")
+    with open(given if os.path.exists(given) else os.devnull, "rb") as file:
+        running = started(["rt", "run", *example(name)], crate_path(name), lock, stdin=file, stdout=printed, stderr=subprocess.PIPE)
+        with running as rt, Progress() as progress:
+            streams.say(f"proving and building the program (`rt run` in crates/{name}); this is done once and can take some minutes")
+            while True:
+                # a line for the crate that has been checked, and one for each library below it
+                proved = list(dict.fromkeys(re.findall(r"^(?:crate|library) (\S+): modules ", said.decode(errors="replace"), re.MULTILINE)))
+                proved = [crate for crate in proved if crate in crates]
+                progress.show(f"{len(proved)} of {len(crates)} crates proved" + (f", {proved[-1]} last" if proved else ""))
+                if select.select([rt.stderr], [], [], 0.5)[0]:
+                    more = os.read(rt.stderr.fileno(), 1 << 16)
+                    if not more:
+                        break
+                    log.write(more)
+                    said += more
+            status = rt.wait()
     lines = [line for line in said.decode(errors="replace").splitlines() if line.strip()]
     return status, streams.shown(lines[-1].strip()) if lines else ""
 
 
 @contextlib.contextmanager
-def started(words, lock):
+def started(words, folder, lock, **streams_of):
     """A process with a group of its own, which ends with this run however that ends: rt's provers do not heed Control-C.
     Were this run killed outright, the process would still hold the lock."""
     def ended(number, _):
         raise SystemExit(128 + number)
 
     try:
-        process = subprocess.Popen(words, cwd=ROOT, stdin=subprocess.DEVNULL, stdout=subprocess.PIPE,
-                                   stderr=subprocess.STDOUT, start_new_session=True, pass_fds=[lock])
+        process = subprocess.Popen(words, cwd=folder, start_new_session=True, pass_fds=[lock], **streams_of)
     except OSError as error:
         raise Failure(f"the Rattle kit's command {words[0]} cannot be run: {why(error)}") from error
     heeded = [number for number in (signal.SIGTERM, signal.SIGHUP) if signal.getsignal(number) != signal.SIG_IGN]
@@ -197,4 +245,4 @@ def started(words, lock):
                 os.killpg(process.pid, number)
                 with contextlib.suppress(subprocess.TimeoutExpired):
                     process.wait(5)
-        process.stdout.close()
+        process.stderr.close()

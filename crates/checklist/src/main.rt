@@ -1,15 +1,18 @@
 // The check program: a job and a list, each from the file that an argument names, the verdict or the refusal to standard output.
 #![tactic(auto)]
 
-ghost use Rattle.std.specs.Prelude.{◌≤◌, length};
+ghost use Rattle.std.specs.Prelude.{◌≤◌, length, IfOk};
 
 mod answer;
 mod print;
 
 use answer::answer;
+use input::read_full;
 use job::room::TEXT_ROOM;
-use libc::STDOUT_FILENO;
 use printed::outcome::PRINT_ROOM;
+use std::env::Env;
+use std::rt::Files;
+use std::{fs, io, str};
 
 // One byte more than the longest job tells a longer text.
 const JOB_ROOM: usize = TEXT_ROOM + 1;
@@ -17,32 +20,45 @@ const JOB_ROOM: usize = TEXT_ROOM + 1;
 // The longest list has 26,624 bytes: what lies beyond this room could only turn a refusal for too many flashes into one for a line.
 const LIST_ROOM: usize = 65536;
 
-// What the file that an argument names begins with, as much as the room holds; nothing where it cannot be read.
-fn read_named(number: usize, room: &mut [u8]) -> usize
-    ensures { result ≤ length room.new }
+// The longest path has fewer bytes.
+const PATH_ROOM: usize = 4096;
+
+// What a file begins with, as much as the room holds.
+fn read_file(rt: &impl Files, path: &str, room: &mut [u8]) -> io::Result<usize>
+    ensures { IfOk result (λ n. n ≤ length room.new) }
 {
-    let mut path = io::buffer();
-    let length = os::arg(number, &mut path);
-    if os::errno() != 0 {
-        os::fail(b"argument");
-        return 0;
-    }
-    let file = os::open_read(&path[..length]);
-    if file < 0 {
-        os::fail(&path[..length]);
-        return 0;
-    }
-    let count = io::read_full(file, room);
-    libc::close(file);
-    count
+    let mut file = fs::open(rt, path)?;
+    read_full(&mut file, room)
 }
 
-fn main() {
+// What the file that an argument names begins with, as much as the room holds; nothing where it cannot be read, which standard error tells.
+fn read_named(rt: &(impl Env + Eprint + Files), number: usize, room: &mut [u8]) -> usize
+    ensures { result ≤ length room.new }
+{
+    let mut path_room = [0u8; PATH_ROOM];
+    let Ok(length) = rt.arg(number, &mut path_room) else {
+        let _ = eprintln!(rt; "argument {number}: missing or too long");
+        return 0;
+    };
+    let Ok(path) = str::from_utf8(&path_room[..length]) else {
+        let _ = eprintln!(rt; "argument {number}: not UTF-8");
+        return 0;
+    };
+    match read_file(rt, path, room) {
+        Ok(count) => count,
+        Err(error) => {
+            let _ = eprintln!(rt; "{path}: {error}");
+            0
+        }
+    }
+}
+
+fn main(rt: HostRuntime) -> io::Result<()> {
     let mut text = [0u8; JOB_ROOM];
-    let length = read_named(1, &mut text);
+    let length = read_named(&rt, 1, &mut text);
     let mut list = [0u8; LIST_ROOM];
-    let listed = read_named(2, &mut list);
+    let listed = read_named(&rt, 2, &mut list);
     let mut out = [0u8; PRINT_ROOM];
     let printed = answer(&text[..length], &list[..listed], &mut out);
-    io::write_all(STDOUT_FILENO, &out[..printed]);
+    rt.write_all(&out[..printed])
 }

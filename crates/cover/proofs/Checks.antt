@@ -46,8 +46,8 @@ pub record Passed (w h k n f m : ℕ) : Type 0 where
   pub wide : (1 ≤ w) × (w ≤ side)
   pub tall : (1 ≤ h) × (h ≤ side)
   pub full : n ≡ w * h
-  pub flash-room : flash_room_size ≤ f
-  pub mark-room : mark_room_size ≤ m
+  pub flash_room : flash_room_size ≤ f
+  pub mark_room : mark_room_size ≤ m
   pub allowance : k ≤ allowance_limit
 
 pub sizes-passed : (w h k n f m : ℕ) → Each Passes (size_checks w h k n f m) → Passed w h k n f m
@@ -57,8 +57,8 @@ sizes-passed w h k n f m all =
       wide = fits-side w (and_left (side_fits w) (side_fits h) both);
       tall = fits-side h (and_right (side_fits w) (side_fits h) both);
       full = eqb-true n (w * h) (check-passed (length_fits w h n) 1 all.1.0);
-      flash-room = leb-true flash_room_size f (check-passed (leb flash_room_size f) 2 all.1.1.0);
-      mark-room = leb-true mark_room_size m (check-passed (leb mark_room_size m) 3 all.1.1.1.0);
+      flash_room = leb-true flash_room_size f (check-passed (leb flash_room_size f) 2 all.1.1.0);
+      mark_room = leb-true mark_room_size m (check-passed (leb mark_room_size m) 3 all.1.1.1.0);
       allowance = leb-true k allowance_limit (check-passed (leb k allowance_limit) 5 all.1.1.1.1.0);
     }
 
@@ -107,8 +107,8 @@ module _ (w h k : ℕ) (raster f m : List ℕ) where
         bytes = good-bytes w raster (check_at-passed (bad_square w raster) 6 later.0);
         unbroken = (raster-unbroken w h raster).0 (check_at-passed (broken_square (area_of w h raster) w h) 7 later.1.0);
         allowance = p.allowance;
-        flashes-fit = p.flash-room;
-        marks-fit = p.mark-room;
+        flashes-fit = p.flash_room;
+        marks-fit = p.mark_room;
       }
 
   pub asked-answered : Asked w h k raster f m → cover_gives w h k raster f m ≡ answered (area_of w h raster) w h k f m

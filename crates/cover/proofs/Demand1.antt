@@ -18,7 +18,7 @@ use Rattle.cover.proofs.Checks.{outcomes}
 answered-refused : (a : Area) (w h k : ℕ) (f m : List ℕ) → (answered a w h k f m).outcome.answer ≢ 0 → Refused f m (answered a w h k f m)
 answered-refused a w h k f m =
     bcase (ltb k (length (flashes a w h)))
-    (λ t. rw t (λ d. record { flash-room = refl; no-flashes = refl; no_copper = refl; no-area = refl; mark-room = λ n. absurd (n refl); no-marks = λ n. absurd (n refl) }))
+    (λ t. rw t (λ d. record { flash_room = refl; no-flashes = refl; no_copper = refl; no-area = refl; mark_room = λ n. absurd (n refl); no-marks = λ n. absurd (n refl) }))
     (λ t. rw t (λ d. absurd (d refl)))
 
 pub demand-1 : (w h k : ℕ) (raster f m : List ℕ) (r : Outcome) (f' m' : List ℕ) → Gives w h k raster f m r f' m' → r.answer ≢ 0
@@ -26,5 +26,5 @@ pub demand-1 : (w h k : ℕ) (raster f m : List ℕ) (r : Outcome) (f' m' : List
 demand-1 w h k raster f m r f' m' gives =
     subst (λ (g : Given). g.outcome.answer ≢ 0 → Refused f m g) (sym gives)
     (outcomes w h k raster f m (λ g. g.outcome.answer ≢ 0 → Refused f m g)
-    (λ n x y l u d. record { flash-room = refl; no-flashes = refl; no_copper = refl; no-area = refl; mark-room = λ e. refl; no-marks = λ e. refl })
+    (λ n x y l u d. record { flash_room = refl; no-flashes = refl; no_copper = refl; no-area = refl; mark_room = λ e. refl; no-marks = λ e. refl })
     (λ q. answered-refused (area_of w h raster) w h k f m))

@@ -5,9 +5,9 @@ use Rattle.grid.specs.Answers.{allowance_short}
 use Rattle.cover.specs.Cover.{Given}
 
 pub record Refused (f m : List ℕ) (g : Given) : Type 0 where
-  pub flash-room : g.flashes_after ≡ f
+  pub flash_room : g.flashes_after ≡ f
   pub no-flashes : g.outcome.flashes ≡ 0
   pub no_copper : g.outcome.copper ≡ 0
   pub no-area : g.outcome.flashed ≡ 0
-  pub mark-room : g.outcome.answer ≢ allowance_short → g.marks_after ≡ m
+  pub mark_room : g.outcome.answer ≢ allowance_short → g.marks_after ≡ m
   pub no-marks : g.outcome.answer ≢ allowance_short → g.outcome.marks ≡ 0

@@ -222,8 +222,7 @@ fn cover_checked(
     cover_columns(job, raster, &bottoms, &ends, flash_room, mark_room, search)
 }
 
-#[unsafe(no_mangle)]
-pub extern "C" fn keekaboor_cover(
+pub fn keekaboor_cover(
     width: u64,
     height: u64,
     allowance: u64,
@@ -245,8 +244,7 @@ pub extern "C" fn keekaboor_cover(
 }
 
 // The same promise, by the plain search.
-#[unsafe(no_mangle)]
-pub extern "C" fn keekaboor_cover_plain(
+pub fn keekaboor_cover_plain(
     width: u64,
     height: u64,
     allowance: u64,

@@ -7,11 +7,15 @@ ghost use Rattle.intervals.specs.Table.{Tabled};
 
 use grid::limits::{BRACKET_ROOM, LINES, SIDE};
 use grid::lines::{Interval, Line};
+use input::read_full;
 use intervals::dependent::dependent;
 use intervals::final_set::final_set;
 use intervals::reduce::reduce;
 use intervals::{Found, Table, table};
-use libc::STDOUT_FILENO;
+use std::io;
+
+// A longer text is cut off here, so the program ends on endless input too.
+const TEXT_ROOM: usize = 65536;
 
 #[derive(Clone, Copy)]
 struct Number {
@@ -88,31 +92,31 @@ fn read_number(s: &[u8], at: usize) -> Number
     }
 }
 
-fn print_interval(i: Interval) {
-    io::write_all(STDOUT_FILENO, b" (");
-    io::print_decimal(STDOUT_FILENO, i.left.0 as u64);
-    io::write_all(STDOUT_FILENO, b", ");
-    io::print_decimal(STDOUT_FILENO, i.right.0 as u64);
-    io::write_all(STDOUT_FILENO, b")");
+fn print_interval(rt: &impl Print, i: Interval) -> io::Result<()> {
+    let left = i.left.0;
+    let right = i.right.0;
+    print!(rt; " ({left}, {right})")
 }
 
 // The intervals from line `left`.
-fn print_row(t: &Table, last: Line, left: Line)
+fn print_row(rt: &impl Print, t: &Table, last: Line, left: Line) -> io::Result<()>
     requires { Tabled last.0 t.now }
 {
     let mut right = table::next_end(t, last, left, left);
     while 0 < right.0 {
-        print_interval(Interval { left, right });
+        print_interval(rt, Interval { left, right })?;
         right = table::next_end(t, last, left, right);
     }
+    Ok(())
 }
 
-fn print(t: &Table, last: Line)
+fn print(rt: &impl Print, t: &Table, last: Line) -> io::Result<()>
     requires { Tabled last.0 t.now }
 {
     for l in 0..last.0 {
-        print_row(t, last, Line(l));
+        print_row(rt, t, last, Line(l))?;
     }
+    Ok(())
 }
 
 // Merging in three orders (document 02, R-8). Each step reduces a minimal bracket; only their choice differs.
@@ -267,17 +271,22 @@ fn merge(t: &mut Table, last: Line, order: Order, seed: usize) -> usize
     merge_chosen(t, last, order, seed)
 }
 
-fn print_merged(how: &[u8], t: &Table, last: Line, order: Order, seed: usize)
+fn print_merged(
+    rt: &impl Print,
+    how: &str,
+    t: &Table,
+    last: Line,
+    order: Order,
+    seed: usize,
+) -> io::Result<()>
     requires { Tabled last.0 t.now }
 {
     let mut work = table::empty();
     table::copy(t, &mut work);
     let reductions = merge(&mut work, last, order, seed);
-    io::write_all(STDOUT_FILENO, how);
-    io::print_decimal(STDOUT_FILENO, reductions as u64);
-    io::write_all(STDOUT_FILENO, b" reductions:");
-    print(&work, last);
-    io::write_all(STDOUT_FILENO, b"\n");
+    print!(rt; "{how}, {reductions} reductions:")?;
+    print(rt, &work, last)?;
+    println!(rt)
 }
 
 // Puts the intervals of a line into the table, from the number that stands here on.
@@ -311,29 +320,30 @@ fn seed(name: &[u8]) -> usize {
     number
 }
 
-fn print_set(name: &[u8], line: &[u8]) {
-    io::write_all(STDOUT_FILENO, name);
+fn print_set(rt: &impl Print, name: &[u8], line: &[u8]) -> io::Result<()> {
+    rt.write_all(name)?;
     let first = read_number(line, digit_from(line, 0));
     if SIDE < first.value {
-        return;
+        return Ok(());
     }
     let last = Line(first.value);
     let mut t = table::empty();
     put_intervals(&mut t, last, line, first.next);
-    print_merged(b"from the left, ", &t, last, Order::Left, 0);
-    print_merged(b"from the right, ", &t, last, Order::Right, 0);
-    print_merged(b"at random, ", &t, last, Order::Random, seed(name));
+    print_merged(rt, "from the left", &t, last, Order::Left, 0)?;
+    print_merged(rt, "from the right", &t, last, Order::Right, 0)?;
+    print_merged(rt, "at random", &t, last, Order::Random, seed(name))
 }
 
-fn main() {
-    let mut text = io::large_buffer();
-    let n = io::read_full(0, &mut text);
+fn main(rt: HostRuntime) -> io::Result<()> {
+    let mut text = [0u8; TEXT_ROOM];
+    let n = read_full(&mut rt.stdin(), &mut text)?;
     let s = &text[..n];
     let mut at = 0;
     while at < s.len() {
         let set = next_line(s, at);
         let end = next_line(s, set);
-        print_set(&s[at..set], &s[set..end]);
+        print_set(&rt, &s[at..set], &s[set..end])?;
         at = end;
     }
+    Ok(())
 }

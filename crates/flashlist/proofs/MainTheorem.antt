@@ -44,8 +44,8 @@ use Rattle.flashlist.proofs.answer.answer
 pub record Demands (w h k : ℕ) (raster f m : List ℕ) (g : Given) : Type 0 where
   -- 1. a refusal changes no lent buffer and reports nothing, save that answer 9 writes and reports its marks; past the records every byte stays
   pub refusal : g.outcome.answer ≢ 0 → Refused f m g
-  pub flash-room : Kept f g.flashes_after g.outcome.flashes flash_record
-  pub mark-room : Kept m g.marks_after g.outcome.marks mark_record
+  pub flash_room : Kept f g.flashes_after g.outcome.flashes flash_record
+  pub mark_room : Kept m g.marks_after g.outcome.marks mark_record
   -- 2. on success the rules' flashes and marks, and a cover; on answer 9 the rules' first marks
   pub success : g.outcome.answer ≡ 0 → Sound (area_of w h raster) w h g
   pub short : g.outcome.answer ≡ allowance_short → ShortRuled (area_of w h raster) w h k g
@@ -59,8 +59,8 @@ given_demands {w} {h} {k} {raster} {f} {m} {r} {f'} {m'} g =
     let rooms = rooms_kept w h k raster f m r f' m' g in
     record {
       refusal = demand-1 w h k raster f m r f' m' g;
-      flash-room = rooms.0;
-      mark-room = rooms.1;
+      flash_room = rooms.0;
+      mark_room = rooms.1;
       success = demand-2 w h k raster f m r f' m' g;
       short = demand-2-short w h k raster f m r f' m' g;
       least = demand-3 w h k raster f m r f' m' g;

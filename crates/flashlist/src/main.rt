@@ -4,17 +4,18 @@
 mod answer;
 
 use answer::answer;
+use input::read_full;
 use job::room::TEXT_ROOM;
-use libc::{STDIN_FILENO, STDOUT_FILENO};
 use printed::outcome::PRINT_ROOM;
+use std::io;
 
 // One byte more than the longest job tells a longer text, so the program ends on endless input too.
 const READ_ROOM: usize = TEXT_ROOM + 1;
 
-fn main() {
+fn main(rt: HostRuntime) -> io::Result<()> {
     let mut text = [0u8; READ_ROOM];
-    let length = io::read_full(STDIN_FILENO, &mut text);
+    let length = read_full(&mut rt.stdin(), &mut text)?;
     let mut out = [0u8; PRINT_ROOM];
     let printed = answer(&text[..length], &mut out);
-    io::write_all(STDOUT_FILENO, &out[..printed]);
+    rt.write_all(&out[..printed])
 }

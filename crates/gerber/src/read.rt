@@ -173,8 +173,7 @@ fn refused(a: Answer) -> ReadOutcome
     }
 }
 
-#[unsafe(no_mangle)]
-pub extern "C" fn keekaboor_read_gerber(
+pub fn keekaboor_read_gerber(
     text: &[u8],
     version: u64,
     pitch: u64,

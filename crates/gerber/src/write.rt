@@ -90,8 +90,7 @@ fn file_checked(
         .unless(limits::FILE_ROOM <= file_room, answers::FILE_ROOM_SHORT)
 }
 
-#[unsafe(no_mangle)]
-pub extern "C" fn keekaboor_write_gerber(
+pub fn keekaboor_write_gerber(
     width: u64,
     height: u64,
     allowance: u64,

@@ -41,12 +41,12 @@ pub wrong_fits : (n : ℕ) → n < 2 ^ 64 → length (wrong_text n) ≤ file_roo
 wrong_fits n h = omega (arith, line-more (bytes "wrong") n [], line-none (bytes "wrong"), digits_grow (2 ^ 64 - 1) n (omega arith), longest)
 
 -- the lines of as many flashes as a file can have
-flash-room : side * flash_line_room ≤ file_room_size
+flash_room : side * flash_line_room ≤ file_room_size
 unfolding decimal digits
-flash-room = omega arith
+flash_room = omega arith
 
 pub flashes-fit : (n : ℕ) (f : List ℕ) → n ≤ side → Line.within (2 ^ 8 - 1) f ≡ true → length (flash_lines n f) ≤ file_room_size
-flashes-fit n f few bytes = omega (arith, record_lines-most flash_word flash_record (2 ^ 8 - 1) n f bytes, mul-le-mul_right flash_line_room few, flash-room)
+flashes-fit n f few bytes = omega (arith, record_lines-most flash_word flash_record (2 ^ 8 - 1) n f bytes, mul-le-mul_right flash_line_room few, flash_room)
 
 module _ (o : ReadOutcome) (f : List ℕ) where
   pub back-flashes : o.answer ≡ 0 → flash_lines o.flashes f ≡ read_back_text o f

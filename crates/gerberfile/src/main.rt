@@ -2,13 +2,17 @@
 // Its words are the task, `write` or `read`, the version, the pitch, and the origin's two numbers.
 #![tactic(auto)]
 
+ghost use Rattle.std.specs.Prelude.{◌≤◌, length};
+
 mod answer;
 mod print;
 mod words;
 
 use answer::answer;
 use grid::limits::FILE_ROOM;
-use libc::{STDIN_FILENO, STDOUT_FILENO};
+use input::read_full;
+use std::env::Env;
+use std::io;
 
 // No number of 64 bits has as many characters; a word that is longer is none.
 const WORD_ROOM: usize = 32;
@@ -16,19 +20,29 @@ const WORD_ROOM: usize = 32;
 // The longest job and the longest file that can be as ruled are shorter, so a longer text is refused by what is read of it.
 const READ_ROOM: usize = FILE_ROOM;
 
-fn main() {
+// A word of the call, from the room's start; none where it is missing or longer than the room.
+fn word(rt: &impl Env, number: usize, room: &mut [u8]) -> usize
+    ensures { result ≤ length room.new }
+{
+    match rt.arg(number, room) {
+        Ok(length) => length,
+        Err(_) => 0,
+    }
+}
+
+fn main(rt: HostRuntime) -> io::Result<()> {
     let mut task = [0u8; WORD_ROOM];
-    let task_end = os::arg(1, &mut task);
+    let task_end = word(&rt, 1, &mut task);
     let mut version = [0u8; WORD_ROOM];
-    let version_end = os::arg(2, &mut version);
+    let version_end = word(&rt, 2, &mut version);
     let mut pitch = [0u8; WORD_ROOM];
-    let pitch_end = os::arg(3, &mut pitch);
+    let pitch_end = word(&rt, 3, &mut pitch);
     let mut x = [0u8; WORD_ROOM];
-    let x_end = os::arg(4, &mut x);
+    let x_end = word(&rt, 4, &mut x);
     let mut y = [0u8; WORD_ROOM];
-    let y_end = os::arg(5, &mut y);
+    let y_end = word(&rt, 5, &mut y);
     let mut text = [0u8; READ_ROOM];
-    let length = io::read_full(STDIN_FILENO, &mut text);
+    let length = read_full(&mut rt.stdin(), &mut text)?;
     let mut out = [0u8; FILE_ROOM];
     let printed = answer(
         &task[..task_end],
@@ -39,5 +53,5 @@ fn main() {
         &text[..length],
         &mut out,
     );
-    io::write_all(STDOUT_FILENO, &out[..printed]);
+    rt.write_all(&out[..printed])
 }

@@ -20,7 +20,7 @@ use Rattle.grid.specs.Answers.{done, or_else, first_refusal, size_out, raster_le
 use Rattle.grid.specs.Raster.{size_fits, length_fits, first_bad, in_raster, bad_square}
 use Rattle.grid.specs.Rooms.{Written}
 use Rattle.grid.specs.declared.answers.Answer.{Answer}
-use Rattle.grid.proofs.Chain.{Passes, Each, stands, gives_way, chain-passed, passed-chain, chain-append, check-passed, passed-check, check_at-passed, passed-check_at}
+use Rattle.grid.proofs.Chain.{Passes, stands, gives_way, chain-passed, passed-chain, chain-append, check-passed, passed-check, check_at-passed, passed-check_at}
 use Rattle.job.specs.JobText.{job_text, IsJob, text_room}
 use Rattle.job.specs.Writing.{write_checks, checked, not_written, written_out, WriteJob, size_checks, byte_checks}
 use Rattle.job.specs.declared.write.WriteOutcome.{WriteOutcome}

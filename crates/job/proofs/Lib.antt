@@ -10,5 +10,4 @@ pub mod Accepted
 pub mod Outcomes
 pub mod RoundTrip
 pub mod Determined
-pub mod Walk
 pub mod Held

@@ -116,8 +116,7 @@ fn outcome(judged: Judged) -> ReadOutcome
     }
 }
 
-#[unsafe(no_mangle)]
-pub extern "C" fn keekaboor_read_job(text: &[u8], raster_room: &mut [u8]) -> ReadOutcome
+pub fn keekaboor_read_job(text: &[u8], raster_room: &mut [u8]) -> ReadOutcome
     ensures { ReadJob text.now raster_room.old result raster_room.new }
 {
     let judged = judge(text, raster_room.len());

@@ -106,8 +106,7 @@ fn put_text(room: &mut [u8], job: Job, raster: &[u8]) -> usize
     put_rows(room, next, job.size, raster)
 }
 
-#[unsafe(no_mangle)]
-pub extern "C" fn keekaboor_write_job(
+pub fn keekaboor_write_job(
     width: u64,
     height: u64,
     allowance: u64,

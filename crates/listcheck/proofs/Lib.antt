@@ -1,7 +1,7 @@
 -- What the verdicts say of squares, and that nothing is left open.
 pub mod Sound
 pub mod Told
-pub mod OwnLists
+pub mod OurLists
 pub mod Few
 pub mod Tried
 pub mod Determined

@@ -129,8 +129,7 @@ fn judge(size: Size, raster: &[u8], list: &[u8], count: usize, mark_room: &mut [
     weigh(size, raster, count, mark_room)
 }
 
-#[unsafe(no_mangle)]
-pub extern "C" fn keekaboor_check(
+pub fn keekaboor_check(
     width: u64,
     height: u64,
     allowance: u64,

@@ -1,6 +1,6 @@
 -- What is still ahead of a writing: the fields of a line from the k-th on, the lines of a room's records from the k-th on.
 -- The next one comes off the front; none is left at the end. Inductions on the list or on the length of the range. The loops over fields and records go by these.
-use mathlib.Core.Path.{◌≡◌, refl, sym, ap, ◌∙◌}
+use mathlib.Core.Path.{◌≡◌, refl, ap, ◌∙◌}
 use mathlib.Core.List.{List, [], ◌∷◌, ◌++◌, append_assoc}
 use Prim.Native.Nat.{ℕ, suc, ◌+◌, ◌-◌, ◌*◌, ◌≤◌, ◌<◌}
 use native.Mathlib.Omega.{arith}

@@ -1,20 +1,19 @@
 -- How long numbers and lines are at most: a lesser number has no more digits, so a line of numbers up to a limit is at most its word, as many
 -- of the longest fields, and the line feed. By tenths of the number, and by induction over the fields and the records. Rooms for the longest text and print go by this.
-use mathlib.Core.Path.{◌≡◌, refl, ap, ◌∙◌}
+use mathlib.Core.Path.{◌≡◌, refl, ap}
 use mathlib.Core.Bool.{true}
 use mathlib.Core.List.{List, [], ◌∷◌, ◌++◌}
 use mathlib.Core.Logic.{by_cases}
 use Prim.Native.Nat.{ℕ, zero, suc, ◌+◌, ◌-◌, ◌*◌, ◌/◌, ◌^◌, ◌≤◌, ◌<◌}
 use native.Mathlib.Omega.{arith}
-use native.Mathlib.Nat.{suc-mul, zero-mul, mul-le-mul, mul-le-mul_right, le_refl}
+use native.Mathlib.Nat.{suc-mul, zero-mul, mul-le-mul_right}
 use native.Mathlib.Decide.{dec_lt}
 use lib.Dec.{leb}
 use lib.ListN.{length, take, drop, get_or, length-append, length-take}
 use borrow.Author.Tests.{le-leb, leb-true}
-use Rattle.lists.specs.Lists.{gather, from, up_to}
+use Rattle.lists.specs.Lists.{gather, up_to}
 use Rattle.lists.proofs.Truth.{and_left, and_right, and_both}
 use Rattle.lists.proofs.Ranges.{length_from}
-use Rattle.text.specs.Words.{feed}
 use Rattle.text.specs.Decimal.{decimal, field}
 use Rattle.text.specs.Line.{fields, line, record_lines, field_room, within}
 use Rattle.grid.specs.Rooms.{record_in}

@@ -1,5 +1,5 @@
 -- Signed numbers in decimal: the digits of a number, with a minus before those of a number below 0; no plus, no leading zero, no minus before 0.
-use Rattle.std.specs.Prelude.{Bool, true, false, cond, List, [], ◌∷◌, ℕ, zero, suc, ◌+◌, ◌^◌, ltb, ℤ, pos, negsuc}
+use Rattle.std.specs.Prelude.{Bool, cond, List, [], ◌∷◌, ℕ, zero, suc, ◌+◌, ◌^◌, ltb, ℤ, pos, negsuc}
 use Rattle.text.specs.declared.read.Number.{Number}
 use Rattle.text.specs.declared.read.Number.TheVariants.{Value as Unsigned, Nothing as NoNumber}
 use Rattle.text.specs.declared.signed.Integer.{Integer}

@@ -1,8 +1,7 @@
 -- The invariant: k numbers are 0, and a 0 is to come for each of the others.
-use Rattle.std.proofs.Common.{arith}
 use Prim.Native.Nat.{◌-◌, ◌≤◌}
-use lib.ListN.{length, length-set}
-use Rattle.text.proofs.Filling.{Clearing, clearing, clear_next, cleared, clear-many}
+use lib.ListN.{length}
+use Rattle.text.proofs.Filling.{Clearing}
 use Rattle.text.proofs.line.clear.Given as goal
 
 abbrev pub invariant-loop-k : goal.invariant-loop-k

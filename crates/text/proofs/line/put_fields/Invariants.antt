@@ -1,9 +1,7 @@
 -- Field by field, and then the line feed. The invariant: the fields from the k-th on and the line feed are left.
-use Rattle.std.proofs.Common.{arith}
 use Prim.Native.Nat.{◌-◌}
 use lib.ListN.{length}
-use Rattle.text.proofs.Onward.{start}
-use Rattle.text.proofs.Ahead.{Fielded, field_fits, field-written, feed-fits, fields-written}
+use Rattle.text.proofs.Ahead.{Fielded}
 use Rattle.text.proofs.line.put_fields.Given as goal
 
 abbrev pub invariant-loop-k : goal.invariant-loop-k

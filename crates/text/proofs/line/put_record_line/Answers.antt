@@ -1,6 +1,5 @@
 -- The word, and then the fields and the line feed past it.
 use Rattle.std.proofs.Common.{arith}
-use borrow.Author.Rules.{rules}
 use Rattle.text.specs.Line.{fields, line}
 use Rattle.grid.proofs.Writing.{then-written}
 use Rattle.text.proofs.Ahead.{length-line}

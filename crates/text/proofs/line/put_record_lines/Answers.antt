@@ -1,9 +1,9 @@
 -- Record by record. The invariant: the lines before the k-th record's are written, and the others are left.
 use Rattle.std.proofs.Common.{arith}
-use Prim.Native.Nat.{◌-◌, ◌+◌, ◌*◌, ◌≤◌}
+use Prim.Native.Nat.{◌+◌, ◌*◌, ◌≤◌}
 use lib.ListN.{length}
 use Rattle.text.specs.Line.{record_lines}
-use Rattle.text.proofs.Ahead.{Lined, lined, line-fits, line-written, lines-written, record_line, record_inside, record_part}
+use Rattle.text.proofs.Ahead.{lined, line-fits, line-written, lines-written, record_inside, record_part}
 use Rattle.text.proofs.line.put_record_lines.Goals as goal
 
 pub loop-k-init : goal.loop-k-init

@@ -1,9 +1,6 @@
 -- Record by record. The invariant: the lines before the k-th record's are written, and the others are left.
-use Rattle.std.proofs.Common.{arith}
-use Prim.Native.Nat.{◌-◌, ◌+◌, ◌*◌, ◌≤◌}
-use lib.ListN.{length}
-use Rattle.text.specs.Line.{record_lines}
-use Rattle.text.proofs.Ahead.{Lined, lined, line-fits, line-written, lines-written, record_line, record_inside, record_part}
+use Prim.Native.Nat.{◌-◌}
+use Rattle.text.proofs.Ahead.{Lined, record_line}
 use Rattle.text.proofs.line.put_record_lines.Given as goal
 
 abbrev pub invariant-loop-k : goal.invariant-loop-k

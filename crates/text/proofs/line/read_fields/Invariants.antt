@@ -1,10 +1,7 @@
 -- Field by field. The invariant: k fields are read, and what is left to read is the fields from the spot that was reached.
-use Rattle.std.proofs.Common.{arith}
-use borrow.Author.Rules.{rules}
-use mathlib.Core.Path.{sym, ◌∙◌}
 use Prim.Native.Nat.{◌-◌, ◌≤◌}
 use lib.ListN.{length}
-use Rattle.text.proofs.Filling.{Reading, reading, read_next, read-stop, read_done, read-many}
+use Rattle.text.proofs.Filling.{Reading}
 use Rattle.text.proofs.line.read_fields.Given as goal
 
 abbrev pub invariant-loop-k : goal.invariant-loop-k

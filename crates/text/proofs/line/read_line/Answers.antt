@@ -1,6 +1,4 @@
 -- The line as it was tried; where it is not there, each number is set to 0.
-use Rattle.std.proofs.Common.{arith}
-use borrow.Author.Rules.{rules}
 use Rattle.text.proofs.Filling.{line_read, line_refused}
 use Rattle.text.proofs.line.read_line.Goals as goal
 

@@ -1,6 +1,4 @@
 -- Each step takes the reading further, or ends it: what was asked equals what is left to read.
-use Rattle.std.proofs.Common.{arith}
-use borrow.Author.Rules.{rules}
 use mathlib.Core.Path.{◌≡◌, sym, ◌∙◌}
 use lib.ListN.{length}
 use Rattle.text.specs.declared.read.Next.TheVariants.{Spot}

@@ -1,5 +1,4 @@
 -- The two tests are those of `is_digit_byte`, in its order.
-use Rattle.std.proofs.Common.{arith}
 use borrow.Author.Tests.{le-leb, lt-leb}
 use Rattle.text.proofs.read.is_digit.Goals as goal
 

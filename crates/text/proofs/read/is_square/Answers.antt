@@ -1,5 +1,4 @@
 -- The two tests are those of `is_square`, in its order.
-use Rattle.std.proofs.Common.{arith}
 use borrow.Author.Tests.{eq-eqb, ne_eqb}
 use Rattle.text.proofs.read.is_square.Goals as goal
 

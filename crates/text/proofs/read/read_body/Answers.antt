@@ -1,11 +1,7 @@
 -- The invariant: what was asked equals what is left of the width at the spot that was reached.
 use Rattle.std.proofs.Common.{arith}
-use borrow.Author.Rules.{rules}
-use borrow.Author.Tests.{not-true, not-false}
-use mathlib.Core.Path.{◌≡◌, sym, ◌∙◌}
-use Prim.Native.Nat.{◌≤◌, ◌-◌}
+use mathlib.Core.Path.{sym, ◌∙◌}
 use native.Mathlib.Nat.{sub-zero}
-use Rattle.text.specs.Words.{body_at}
 use Rattle.text.proofs.Turns.{body-done, body-short, body_differs, body-turn}
 use Rattle.text.proofs.read.read_body.Goals as goal
 

@@ -1,6 +1,4 @@
 -- One step of a word of one byte.
-use Rattle.std.proofs.Common.{arith}
-use borrow.Author.Rules.{rules}
 use mathlib.Core.Path.{sym, ◌∙◌}
 use mathlib.Core.List.{[]}
 use Prim.Native.Nat.{◌+◌}

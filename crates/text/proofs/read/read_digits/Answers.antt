@@ -1,11 +1,9 @@
 -- The invariant: what was asked equals what is left to read on from the value so far, which is at most the limit.
 use Rattle.std.proofs.Common.{arith}
-use borrow.Author.Rules.{rules}
-use borrow.Author.Tests.{not-true, not-false}
 use mathlib.Core.Path.{◌≡◌, sym, ◌∙◌, refl}
 use mathlib.Core.Bool.{true}
 use Prim.Native.Nat.{ℕ, ◌≤◌, ◌<◌, ◌-◌, ◌+◌, ◌*◌}
-use lib.ListN.{length, get_or}
+use lib.ListN.{get_or}
 use Rattle.text.specs.declared.read.Number.TheVariants.{Nothing}
 use Rattle.text.specs.Decimal.{digit, is_digit_byte, read_on}
 use Rattle.text.proofs.Decimals.{digit_low, digit-high}
@@ -22,7 +20,7 @@ overflow_sub-digit c =
     let byte : ℕ =
     get_or c.args.text.now c.loop-at.at 0 in
     let is : is_digit_byte (byte) ≡ true =
-    sym c.is_digit.ensures ∙ not-false _ c.if-not-is_digit.false in
+    sym c.is_digit.ensures ∙ c.if-not-is_digit.false in
     let low : digit 0 ≤ byte =
     digit_low (byte) (is) in
     omega (arith, low)
@@ -32,7 +30,7 @@ overflow_cast-digit c =
     let byte : ℕ =
     get_or c.args.text.now c.loop-at.at 0 in
     let is : is_digit_byte (byte) ≡ true =
-    sym c.is_digit.ensures ∙ not-false _ c.if-not-is_digit.false in
+    sym c.is_digit.ensures ∙ c.if-not-is_digit.false in
     let low : digit 0 ≤ byte =
     digit_low (byte) (is) in
     let high : byte ≤ digit 9 =
@@ -44,7 +42,7 @@ returns-then-limit-digit c =
     let byte : ℕ =
     get_or c.args.text.now c.loop-at.at 0 in
     let is : is_digit_byte (byte) ≡ true =
-    sym c.is_digit.ensures ∙ not-false _ c.if-not-is_digit.false in
+    sym c.is_digit.ensures ∙ c.if-not-is_digit.false in
     let low : digit 0 ≤ byte =
     digit_low (byte) (is) in
     let on : let l = c.loop-at in let a = c.args in
@@ -64,7 +62,7 @@ returns-then-limit-digit-2 c =
     let byte : ℕ =
     get_or c.args.text.now c.loop-at.at 0 in
     let is : is_digit_byte (byte) ≡ true =
-    sym c.is_digit.ensures ∙ not-false _ c.if-not-is_digit.false in
+    sym c.is_digit.ensures ∙ c.if-not-is_digit.false in
     let low : digit 0 ≤ byte =
     digit_low (byte) (is) in
     let on : let l = c.loop-at in let a = c.args in
@@ -84,7 +82,7 @@ overflow_mul-value c =
     let byte : ℕ =
     get_or c.args.text.now c.loop-at.at 0 in
     let is : is_digit_byte (byte) ≡ true =
-    sym c.is_digit.ensures ∙ not-false _ c.if-not-is_digit.false in
+    sym c.is_digit.ensures ∙ c.if-not-is_digit.false in
     let low : digit 0 ≤ byte =
     digit_low (byte) (is) in
     let high : byte ≤ digit 9 =
@@ -96,7 +94,7 @@ overflow_add-value c =
     let byte : ℕ =
     get_or c.args.text.now c.loop-at.at 0 in
     let is : is_digit_byte (byte) ≡ true =
-    sym c.is_digit.ensures ∙ not-false _ c.if-not-is_digit.false in
+    sym c.is_digit.ensures ∙ c.if-not-is_digit.false in
     let low : digit 0 ≤ byte =
     digit_low (byte) (is) in
     let high : byte ≤ digit 9 =
@@ -108,7 +106,7 @@ loop-at-preserved c =
     let byte : ℕ =
     get_or c.args.text.now c.loop-at.at 0 in
     let is : is_digit_byte (byte) ≡ true =
-    sym c.is_digit.ensures ∙ not-false _ c.if-not-is_digit.false in
+    sym c.is_digit.ensures ∙ c.if-not-is_digit.false in
     let low : digit 0 ≤ byte =
     digit_low (byte) (is) in
     let high : byte ≤ digit 9 =

@@ -1,15 +1,8 @@
 -- The invariant: what was asked equals what is left to read on from the value so far, which is at most the limit.
-use Rattle.std.proofs.Common.{arith}
-use borrow.Author.Rules.{rules}
-use borrow.Author.Tests.{not-true, not-false}
-use mathlib.Core.Path.{◌≡◌, sym, ◌∙◌, refl}
-use mathlib.Core.Bool.{true}
-use Prim.Native.Nat.{ℕ, ◌≤◌, ◌<◌, ◌-◌, ◌+◌, ◌*◌}
-use lib.ListN.{length, get_or}
-use Rattle.text.specs.declared.read.Number.TheVariants.{Nothing}
-use Rattle.text.specs.Decimal.{digit, is_digit_byte, read_on}
-use Rattle.text.proofs.Decimals.{digit_low, digit-high}
-use Rattle.text.proofs.Turns.{on-ended, on-other, on-over, on-digit}
+use mathlib.Core.Path.{◌≡◌}
+use Prim.Native.Nat.{◌≤◌, ◌-◌}
+use lib.ListN.{length}
+use Rattle.text.specs.Decimal.{read_on}
 use Rattle.text.proofs.read.read_digits.Given as goal
 
 abbrev pub invariant-loop-at : goal.invariant-loop-at

@@ -1,6 +1,4 @@
 -- The tab, and then the number past it.
-use Rattle.std.proofs.Common.{arith}
-use borrow.Author.Rules.{rules}
 use mathlib.Core.Path.{sym, ◌∙◌}
 use Rattle.text.proofs.Turns.{field-none, field-then}
 use Rattle.text.proofs.read.read_field.Goals as goal

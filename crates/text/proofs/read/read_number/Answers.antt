@@ -1,6 +1,5 @@
 -- What the digits say, judged for a leading zero: no digit, a first digit that is not 0, or 0 alone.
 use Rattle.std.proofs.Common.{arith}
-use borrow.Author.Rules.{rules}
 use mathlib.Core.Path.{◌≡◌, sym, ◌∙◌}
 use Prim.Native.Nat.{◌<◌, ◌≤◌}
 use lib.ListN.{length}

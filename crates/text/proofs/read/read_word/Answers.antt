@@ -1,9 +1,6 @@
 -- The invariant: what was asked equals what is left of the word at the spot that was reached.
 use Rattle.std.proofs.Common.{arith}
-use mathlib.Core.Path.{◌≡◌, sym, ◌∙◌, refl}
-use Prim.Native.Nat.{◌≤◌, ◌-◌}
-use lib.ListN.{length, drop}
-use Rattle.text.specs.Words.{word_at}
+use mathlib.Core.Path.{sym, ◌∙◌, refl}
 use Rattle.text.proofs.Turns.{word_done, word_short, word_differs, word_turn}
 use Rattle.text.proofs.read.read_word.Goals as goal
 

@@ -1,10 +1,8 @@
 -- The invariant: what was asked equals what is left of the word at the spot that was reached.
-use Rattle.std.proofs.Common.{arith}
-use mathlib.Core.Path.{◌≡◌, sym, ◌∙◌, refl}
+use mathlib.Core.Path.{◌≡◌}
 use Prim.Native.Nat.{◌≤◌, ◌-◌}
 use lib.ListN.{length, drop}
 use Rattle.text.specs.Words.{word_at}
-use Rattle.text.proofs.Turns.{word_done, word_short, word_differs, word_turn}
 use Rattle.text.proofs.read.read_word.Given as goal
 
 abbrev pub invariant-loop-k : goal.invariant-loop-k

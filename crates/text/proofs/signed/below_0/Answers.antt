@@ -14,10 +14,10 @@ pub overflow_add-result : goal.overflow_add-result
 overflow_add-result c =
     let down : Sunk c.args.distance (least +ℤ to_z w64 (2 ^ 63 - c.args.distance)) =
     sunk c.args.distance c.requires.0 c.requires.1 in
-    (down).ranges
+    down.fits
 
 pub returns : goal.returns
 returns c =
     let down : Sunk c.args.distance (least +ℤ to_z w64 (2 ^ 63 - c.args.distance)) =
     sunk c.args.distance c.requires.0 c.requires.1 in
-    (down).result
+    down.result

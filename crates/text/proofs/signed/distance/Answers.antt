@@ -1,6 +1,4 @@
 -- Below 0 counted from the least number, else as it is.
-use Rattle.std.proofs.Common.{arith}
-use borrow.Author.Rules.{rules}
 use lib.IntN.{◌-ℤ◌}
 use mir.Syntax.{w64}
 use mir.Val.{of_z, to_z}
@@ -14,22 +12,22 @@ pub overflow_sub-result : goal.overflow_sub-result
 overflow_sub-result c =
     let away : let z = c.args.value in Counted z (to_z w64 (of_z w64 z) -ℤ least) =
     counted c.args.value c.ranges.value c.if-value-lt0.true in
-    (away).ranges
+    away.fits
 
 pub overflow_cast-result : goal.overflow_cast-result
 overflow_cast-result c =
     let away : let z = c.args.value in Counted z (to_z w64 (of_z w64 z) -ℤ least) =
     counted c.args.value c.ranges.value c.if-value-lt0.true in
-    ((away).sign, (away).small)
+    (away.sign, (away).small)
 
 pub overflow_sub-result-then-value-lt0 : goal.overflow_sub-result-then-value-lt0
 overflow_sub-result-then-value-lt0 c =
     let away : let z = c.args.value in Counted z (to_z w64 (of_z w64 z) -ℤ least) =
     counted c.args.value c.ranges.value c.if-value-lt0.true in
-    (away).most
+    away.most
 
 pub returns-then-value-lt0 : goal.returns-then-value-lt0
 returns-then-value-lt0 c =
     let away : let z = c.args.value in Counted z (to_z w64 (of_z w64 z) -ℤ least) =
     counted c.args.value c.ranges.value c.if-value-lt0.true in
-    (away).result
+    away.result

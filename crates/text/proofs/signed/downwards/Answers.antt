@@ -1,6 +1,4 @@
 -- 0 has no minus; the least i64 is the last that fits.
-use Rattle.std.proofs.Common.{arith}
-use borrow.Author.Rules.{rules}
 use mathlib.Core.Path.{sym, ap, ◌∙◌}
 use Rattle.text.specs.Signed.{downward}
 use Rattle.text.proofs.Signs.{downward_near, downward-far}

@@ -1,6 +1,5 @@
 -- The minus of a number below 0, and then how far it is from 0.
 use Rattle.std.proofs.Common.{arith}
-use borrow.Author.Rules.{rules}
 use mathlib.Core.Path.{◌≡◌, ap, ◌∙◌}
 use mathlib.Core.List.{[], ◌∷◌}
 use Prim.Native.Nat.{ℕ}

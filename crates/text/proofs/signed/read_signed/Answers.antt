@@ -1,6 +1,4 @@
 -- A minus, and the number past it; else the number at the spot.
-use Rattle.std.proofs.Common.{arith}
-use borrow.Author.Rules.{rules}
 use mathlib.Core.Path.{sym, ap, ◌∙◌}
 use Rattle.text.specs.Signed.{upward, downward}
 use Rattle.text.proofs.Integers.{signed-minus, signed-plain}

@@ -1,6 +1,4 @@
 -- The greatest i64 is the last that fits.
-use Rattle.std.proofs.Common.{arith}
-use borrow.Author.Rules.{rules}
 use mathlib.Core.Path.{sym, ap, ◌∙◌}
 use Rattle.text.specs.Signed.{upward}
 use Rattle.text.proofs.Signs.{upward_near, upward-far}

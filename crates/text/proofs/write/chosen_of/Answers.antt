@@ -1,5 +1,4 @@
 -- The test is that of `chosen`.
-use Rattle.std.proofs.Common.{arith}
 use borrow.Author.Tests.{eq-eqb, ne_eqb}
 use Rattle.text.proofs.write.chosen_of.Goals as goal
 

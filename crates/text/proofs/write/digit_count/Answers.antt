@@ -1,9 +1,5 @@
 -- The invariant: the digits counted and those of the rest are all digits, and one more.
 use Rattle.std.proofs.Common.{arith}
-use mathlib.Core.Path.{◌≡◌}
-use Prim.Native.Nat.{◌≤◌, ◌+◌}
-use lib.ListN.{length}
-use Rattle.text.specs.Decimal.{decimal}
 use Rattle.text.proofs.Turns.{count_small, count-more}
 use Rattle.text.proofs.write.digit_count.Goals as goal
 

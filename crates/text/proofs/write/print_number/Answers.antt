@@ -1,8 +1,7 @@
 -- The invariant: what was to be written equals the digits that are left, those before the spot that was reached.
 use Rattle.std.proofs.Common.{arith}
-use borrow.Author.Rules.{rules}
 use mathlib.Core.Path.{◌≡◌, sym, ap, ◌∙◌, refl}
-use Prim.Native.Nat.{ℕ, ◌≤◌, ◌-◌, ◌+◌}
+use Prim.Native.Nat.{ℕ, ◌-◌, ◌+◌}
 use lib.ListN.{length, length-set}
 use Rattle.grid.specs.Rooms.{written}
 use Rattle.text.specs.Decimal.{decimal}

@@ -1,12 +1,10 @@
 -- The invariant: what was to be written equals the digits that are left, those before the spot that was reached.
-use Rattle.std.proofs.Common.{arith}
-use borrow.Author.Rules.{rules}
-use mathlib.Core.Path.{◌≡◌, sym, ap, ◌∙◌, refl}
-use Prim.Native.Nat.{ℕ, ◌≤◌, ◌-◌, ◌+◌}
-use lib.ListN.{length, length-set}
+use mathlib.Core.Path.{◌≡◌}
+use Prim.Native.Nat.{◌≤◌, ◌-◌}
+use lib.ListN.{length}
 use Rattle.grid.specs.Rooms.{written}
 use Rattle.text.specs.Decimal.{decimal}
-use Rattle.text.proofs.Turns.{last_digits, all-last-digits, print_turn, print_done}
+use Rattle.text.proofs.Turns.{last_digits}
 use Rattle.text.proofs.write.print_number.Given as goal
 
 abbrev pub invariant-loop-at : goal.invariant-loop-at

@@ -1,6 +1,4 @@
 -- One byte stored is a writing of one byte.
-use Rattle.std.proofs.Common.{arith}
-use borrow.Author.Rules.{rules}
 use mathlib.Core.Path.{refl}
 use Rattle.grid.proofs.Writing.{written-set}
 use Rattle.text.proofs.write.put_byte.Goals as goal

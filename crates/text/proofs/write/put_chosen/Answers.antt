@@ -1,11 +1,10 @@
 -- The invariant: what was to be written equals what is left of it, at the spot that was reached.
 use Rattle.std.proofs.Common.{arith}
-use borrow.Author.Rules.{rules}
-use mathlib.Core.Path.{◌≡◌, sym, ap, ◌∙◌, refl}
+use mathlib.Core.Path.{sym, ap, ◌∙◌, refl}
 use mathlib.Core.List.{map}
-use Prim.Native.Nat.{ℕ, ◌≤◌, ◌-◌, ◌+◌}
+use Prim.Native.Nat.{ℕ, ◌+◌}
 use native.Mathlib.Nat.{add-zero}
-use lib.ListN.{length, drop, set, length-set}
+use lib.ListN.{drop, set, length-set}
 use Rattle.text.specs.Words.{chosen}
 use Rattle.grid.specs.Rooms.{written}
 use Rattle.text.proofs.Turns.{map-turn, map-done, length-map}
@@ -19,7 +18,7 @@ loop-k-preserved c = let l = c.loop-k in
       simp length-set (omega arith),
       l.invariant.2
           ∙ map-turn f l.room a.bytes.now a.spot l.k (omega arith) (omega arith)
-          ∙ ap (λ (b : ℕ). written (set l.room (a.spot + l.k) b) (a.spot + (l.k + 1)) (map f (drop (l.k + 1) a.bytes.now))) (sym c.Chosen-of.ensures),
+          ∙ ap (λ (b : ℕ). written (set l.room (a.spot + l.k) b) (a.spot + (l.k + 1)) (map f (drop (l.k + 1) a.bytes.now))) (sym c.chosen_of.ensures),
     )
 
 pub returns : goal.returns

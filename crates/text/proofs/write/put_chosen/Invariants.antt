@@ -1,14 +1,10 @@
 -- The invariant: what was to be written equals what is left of it, at the spot that was reached.
-use Rattle.std.proofs.Common.{arith}
-use borrow.Author.Rules.{rules}
-use mathlib.Core.Path.{◌≡◌, sym, ap, ◌∙◌, refl}
+use mathlib.Core.Path.{◌≡◌}
 use mathlib.Core.List.{map}
-use Prim.Native.Nat.{ℕ, ◌≤◌, ◌-◌, ◌+◌}
-use native.Mathlib.Nat.{add-zero}
-use lib.ListN.{length, drop, set, length-set}
+use Prim.Native.Nat.{◌≤◌, ◌-◌, ◌+◌}
+use lib.ListN.{length, drop}
 use Rattle.text.specs.Words.{chosen}
 use Rattle.grid.specs.Rooms.{written}
-use Rattle.text.proofs.Turns.{map-turn, map-done, length-map}
 use Rattle.text.proofs.write.put_chosen.Given as goal
 
 abbrev pub invariant-loop-k : goal.invariant-loop-k

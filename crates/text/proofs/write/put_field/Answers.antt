@@ -1,6 +1,5 @@
 -- The tab, and then the number past it.
 use Rattle.std.proofs.Common.{arith}
-use borrow.Author.Rules.{rules}
 use mathlib.Core.List.{[], ◌∷◌}
 use Rattle.text.specs.Words.{tab}
 use Rattle.text.specs.Decimal.{decimal}

@@ -1,0 +1,24 @@
+-- `write_row` meets its contract. The loop's invariant: the intervals from the next end on are still to be written.
+use Rattle.std.proofs.Common.{arith}
+use mathlib.Core.Path.{◌≡◌, refl, ap, subst}
+use mathlib.Core.Bool.{true}
+use mathlib.Core.List.{List, [], ◌∷◌, map}
+use Prim.Native.Nat.{◌<◌}
+use lib.ListN.{length}
+use Rattle.method.specs.Intervals.{Interval as Span, span, member}
+use Rattle.grid.specs.Squares.{Rectangle}
+use Rattle.grid.proofs.Edges.{number}
+use Rattle.intervals.specs.Table.{set_of, next_end}
+use Rattle.cover.specs.Code.{flash_between, from_line}
+use Rattle.cover.proofs.FlashBounds.{stands-drawn}
+use Rattle.cover.proofs.FlashesByRow.{rest_at, row-start, row_next, row-over, next-member, one-drawn, Going, going_start, going_over, going_ready, going_next}
+use Rattle.cover.proofs.flashes.write_row.Given as goal
+
+abbrev pub invariant-loop-right : goal.invariant-loop-right
+invariant-loop-right l = Going (map (flash_between l.bottoms l.ends) (from_line l.last.0 (set_of l.last.0 l.t) l.left.0))
+    (map (flash_between l.bottoms l.ends) (rest_at l.last.0 (set_of l.last.0 l.t) l.left.0 l.right.0))
+    l.initial.room l.initial.done l.room l.done
+    × (0 < l.right.0 → member (span l.left.0 l.right.0) (set_of l.last.0 l.t) ≡ true)
+
+abbrev pub decreases-loop-right : goal.decreases-loop-right
+decreases-loop-right l = length (rest_at l.last.0 (set_of l.last.0 l.t) l.left.0 l.right.0)

@@ -1,7 +1,6 @@
 -- What the check program prints for the texts of a job and of a list. It reads the job first, then checks the list.
 use Rattle.std.specs.Prelude.{cond, List, [], ◌∷◌, ◌++◌, ℕ, eqb, replicate}
 use Rattle.grid.specs.Limits.{mark_room_size, raster_room}
-use Rattle.grid.specs.declared.answers.Answer.{Answer}
 use Rattle.text.specs.Line.{line}
 use Rattle.job.specs.Reading.{judged, raster_from}
 use Rattle.job.specs.declared.read.Judged.{Judged}

@@ -1,7 +1,7 @@
 -- What reading a file back gave, printed. Its flashes are no more than the grid has columns, since their records are in the room.
 use mathlib.Core.Path.{◌≡◌, sym, ap, subst}
 use mathlib.Core.Bool.{true, false}
-use mathlib.Core.List.{List, ◌++◌}
+use mathlib.Core.List.{List}
 use Prim.Native.Nat.{ℕ, ◌+◌, ◌≤◌}
 use native.Mathlib.Omega.{arith}
 use lib.Dec.{eqb}
@@ -14,7 +14,7 @@ use Rattle.grid.specs.Answers.{first_refusal}
 use Rattle.grid.specs.Squares.{Rectangle}
 use Rattle.grid.specs.Rooms.{written}
 use Rattle.grid.specs.declared.answers.Answer.{Answer}
-use Rattle.cover.specs.Records.{flash_bytes, flashes_written}
+use Rattle.cover.specs.Records.{flash_bytes}
 use Rattle.cover.proofs.Records.{flashes-length}
 use Rattle.gerber.specs.Reading.{Read, Given, all_read, read_refused, flashes_of, read_file, read_checks, or_flashes, read_gives}
 use Rattle.gerberfile.specs.Program.{read_back_text, read_text}

@@ -1,7 +1,7 @@
 -- No second outcome fits the contract of any function that another file calls: the numbers are a definition's, the bytes are one's, and their number is theirs.
 use mathlib.Core.Path.{refl, sym, ◌∙◌}
 use Rattle.grid.proofs.Outcome.{Determined}
-use Rattle.gerberfile.proofs.words.asked
+use Rattle.gerberfile.proofs.call.asked
 use Rattle.gerberfile.proofs.print.print_wrong
 use Rattle.gerberfile.proofs.print.print_refused
 use Rattle.gerberfile.proofs.print.print_file

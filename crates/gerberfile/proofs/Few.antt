@@ -1,6 +1,6 @@
 -- Writing gives no more marks than the grid has columns, and no file that is longer than its room.
 -- By the four ways out of it. Printing what it gave asks for both.
-use mathlib.Core.Path.{◌≡◌, refl, subst}
+use mathlib.Core.Path.{refl, subst}
 use mathlib.Core.List.{List}
 use mathlib.Core.Logic.{by_cases}
 use Prim.Native.Nat.{ℕ, ◌≤◌}

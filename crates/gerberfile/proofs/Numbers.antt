@@ -1,5 +1,5 @@
 -- A word is a number where the number that stands at its start ends with it; the first word that is none is wrong.
-use mathlib.Core.Path.{◌≡◌, refl, sym, ap, ◌∙◌}
+use mathlib.Core.Path.{◌≡◌, sym, ap, ◌∙◌}
 use mathlib.Core.List.{List}
 use Prim.Native.Nat.{ℕ, ◌^◌, ◌<◌}
 use lib.IntN.{ℤ}
@@ -14,11 +14,11 @@ use Rattle.text.specs.Signed.{signed_at}
 use Rattle.text.specs.declared.read.Number.TheVariants.{Value, Nothing}
 use Rattle.text.specs.declared.signed.Integer.TheVariants.{Value as Whole, Nothing as NoInteger}
 use Rattle.gerberfile.specs.Words.{greatest, ended, ended_integer, whole_number, whole_integer, given_version, given_pitch, given_x, given_y, asked_by}
-use Rattle.gerberfile.specs.declared.words.Numbers.TheVariants.{Given, Wrong}
+use Rattle.gerberfile.specs.declared.call.Numbers.TheVariants.{Given, Wrong}
 
 -- a signed number of 64 bits is what its bits say
 pub as_given : (z : ℤ) → mag z < 2 ^ 63 → to_z w64 (of_z w64 z) ≡ z
-as_given z fits = to_z-of_z (record { sfits = fits })
+as_given z fits = to_z-of_z {w = w64} (record { sfits = fits })
 
 module _ (word : List ℕ) where
   pub number-none : number_at word 0 greatest ≡ Nothing → Nothing ≡ whole_number word

@@ -24,7 +24,7 @@ use Rattle.text.specs.Words.{word_at}
 use Rattle.text.specs.declared.read.Next.{Next}
 use Rattle.text.specs.declared.read.Next.TheVariants.{Spot, Nothing}
 use Rattle.gerber.specs.File.{bytes}
-use Rattle.gerberfile.specs.declared.words.Numbers.TheVariants.{Given, Wrong}
+use Rattle.gerberfile.specs.declared.call.Numbers.TheVariants.{Given, Wrong}
 
 module _ (text : List ℕ) (version pitch : ℕ) (x y : ℤ) where
   -- a text that was refused

@@ -14,8 +14,8 @@ use Rattle.text.specs.Words.{word_at}
 use Rattle.text.specs.declared.read.Next.{Next}
 use Rattle.text.specs.declared.read.Next.TheVariants.{Spot, Nothing}
 use Rattle.gerberfile.specs.Words.{asked_by}
-use Rattle.gerberfile.specs.declared.words.Numbers.{Numbers}
-use Rattle.gerberfile.specs.declared.words.Numbers.TheVariants.{Given as Named, Wrong}
+use Rattle.gerberfile.specs.declared.call.Numbers.{Numbers}
+use Rattle.gerberfile.specs.declared.call.Numbers.TheVariants.{Given as Named, Wrong}
 
 -- `wrong` and which word of the call is no number
 abbrev pub wrong_text : ℕ → List ℕ

@@ -6,8 +6,8 @@ use Rattle.text.specs.declared.read.Number.{Number}
 use Rattle.text.specs.declared.read.Number.TheVariants.{Value, Nothing}
 use Rattle.text.specs.declared.signed.Integer.{Integer}
 use Rattle.text.specs.declared.signed.Integer.TheVariants.{Value as Whole, Nothing as NoInteger}
-use Rattle.gerberfile.specs.declared.words.Numbers.{Numbers}
-use Rattle.gerberfile.specs.declared.words.Numbers.TheVariants.{Given, Wrong}
+use Rattle.gerberfile.specs.declared.call.Numbers.{Numbers}
+use Rattle.gerberfile.specs.declared.call.Numbers.TheVariants.{Given, Wrong}
 
 abbrev pub greatest : ℕ
 greatest = 2 ^ 64 - 1

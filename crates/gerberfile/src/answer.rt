@@ -6,8 +6,8 @@ ghost use Rattle.text.specs.Words.{word_at};
 ghost use Rattle.gerber.specs.File.{bytes};
 ghost use Rattle.gerberfile.specs.Program.{job_text, task_text, program_text};
 
+use crate::call::{Numbers, asked};
 use crate::print::{print_file, print_read, print_refused, print_wrong};
-use crate::words::{Numbers, asked};
 use grid::answers::DONE;
 use grid::limits::RASTER_ROOM;
 use job::read::keekaboor_read_job;

@@ -5,8 +5,8 @@
 ghost use Rattle.std.specs.Prelude.{◌≤◌, length};
 
 mod answer;
+mod call;
 mod print;
-mod words;
 
 use answer::answer;
 use grid::limits::FILE_ROOM;

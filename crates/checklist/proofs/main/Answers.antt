@@ -1,0 +1,29 @@
+-- As many bytes are read as the rooms hold, and as many are written out as were printed.
+use mathlib.Core.Path.{sym}
+use lib.Seq.{length-take-le}
+use borrow.Author.Rules.{rules}
+use Rattle.text.specs.Decimal.{digits, decimal}
+use Rattle.checklist.proofs.Program.{within}
+use Rattle.checklist.proofs.main.Goals as goal
+
+pub slice_bounds-text-end : goal.slice_bounds-text-end
+slice_bounds-text-end c = c.read_named-length.ensures
+
+pub slice_bounds-answer-end : goal.slice_bounds-answer-end
+slice_bounds-answer-end c = let r = c.read_named-length in sym (length-take-le r.result r.new.room r.ensures)
+
+pub slice_bounds-list-end : goal.slice_bounds-list-end
+slice_bounds-list-end c = c.read_named-listed.ensures
+
+pub slice_bounds-answer-end-2 : goal.slice_bounds-answer-end-2
+slice_bounds-answer-end-2 c = let r = c.read_named-listed in sym (length-take-le r.result r.new.room r.ensures)
+
+pub slice_bounds-out-end : goal.slice_bounds-out-end
+slice_bounds-out-end c = within c.answer-printed.ensures
+
+pub slice_bounds-write_all-end : goal.slice_bounds-write_all-end
+slice_bounds-write_all-end c = let a = c.answer-printed in sym (length-take-le a.result a.new.out (within a.ensures))
+
+pub answer-printed-requires : goal.answer-printed-requires
+unfolding decimal digits
+answer-printed-requires c = search rules

@@ -25,7 +25,6 @@ pub centre_fits-requires : goal.centre_fits-requires
 centre_fits-requires c = (c.requires.0, subst Drawn (sym c.flash_at.ensures) (c.requires.1.drawn c.loop-k.k (omega arith)))
 
 pub returns-then-not-centre_fits : goal.returns-then-not-centre_fits
-unfolding fits
 returns-then-not-centre_fits c =
     let fits : Rectangle → Bool =
     centre_fits c.args.pitch (to_z w64 (of_z w64 c.args.x)) (to_z w64 (of_z w64 c.args.y)) in
@@ -37,7 +36,6 @@ returns-then-not-centre_fits c =
     (l.invariant.1 ∙ fit-here c.args.records.now c.args.flashes (fits) l.k (omega arith) (sym (told) ∙ c.if-not-centre_fits.true)))
 
 pub loop-k-preserved : goal.loop-k-preserved
-unfolding fits
 loop-k-preserved c =
     let fits : Rectangle → Bool =
     centre_fits c.args.pitch (to_z w64 (of_z w64 c.args.x)) (to_z w64 (of_z w64 c.args.y)) in
@@ -47,7 +45,6 @@ loop-k-preserved c =
     (omega arith, l.invariant.1 ∙ fit_next c.args.records.now c.args.flashes (fits) l.k (omega arith) (sym (told) ∙ c.if-not-centre_fits.false))
 
 pub returns : goal.returns
-unfolding fits
 returns c =
     let fits : Rectangle → Bool =
     centre_fits c.args.pitch (to_z w64 (of_z w64 c.args.x)) (to_z w64 (of_z w64 c.args.y)) in

@@ -16,7 +16,7 @@ use Rattle.gerber.proofs.Records.{flashes_from, flashes-all, fit-here, fit_next,
 use Rattle.gerber.proofs.centres.centres_fit.Given as goal
 
 abbrev pub invariant-loop-k : goal.invariant-loop-k
-invariant-loop-k l = (l.k ≤ l.flashes) × (centres_fit l.pitch (to_z w64 l.x) (to_z w64 l.y) (flashes_in l.flashes l.records) ≡ centres_fit l.pitch (to_z w64 l.x) (to_z w64 l.y) (flashes_from l.records l.k l.flashes))
+invariant-loop-k l = (l.k ≤ l.flashes) × (centres_fit l.pitch l.x l.y (flashes_in l.flashes l.records) ≡ centres_fit l.pitch l.x l.y (flashes_from l.records l.k l.flashes))
 
 abbrev pub decreases-loop-k : goal.decreases-loop-k
 decreases-loop-k l = l.flashes - l.k

@@ -18,8 +18,8 @@ overflow_add-centre c = let a = c.args in
 
 pub returns-then-centre-ge-LEAST : goal.returns-then-centre-ge-LEAST
 returns-then-centre-ge-LEAST c = let a = c.args in
-    ten_low _ _ (centre-value a.pitch a.a a.b a.origin c.ranges.origin c.from_origin.result c.from_origin.ensures.0 c.from_origin.ensures.1 (add-centre c)) c.if-centre-ge-LEAST.true
+    ten_low _ _ (centre-value a.pitch a.a a.b a.origin c.ranges.origin c.from_origin.result c.from_origin.ensures.0 c.from_origin.ensures.1 (centre_in a.pitch a.a a.b a.origin c.ranges.origin c.from_origin.result c.from_origin.ensures.0 c.from_origin.ensures.1 c.if-origin-gt-MOST.false)) c.if-centre-ge-LEAST.true
 
 pub returns-else-centre-ge-LEAST : goal.returns-else-centre-ge-LEAST
 returns-else-centre-ge-LEAST c = let a = c.args in
-    ten_under _ _ (centre-value a.pitch a.a a.b a.origin c.ranges.origin c.from_origin.result c.from_origin.ensures.0 c.from_origin.ensures.1 (add-centre c)) c.if-centre-ge-LEAST.false
+    ten_under _ _ (centre-value a.pitch a.a a.b a.origin c.ranges.origin c.from_origin.result c.from_origin.ensures.0 c.from_origin.ensures.1 (centre_in a.pitch a.a a.b a.origin c.ranges.origin c.from_origin.result c.from_origin.ensures.0 c.from_origin.ensures.1 c.if-origin-gt-MOST.false)) c.if-centre-ge-LEAST.false

@@ -24,7 +24,7 @@ centre-requires c =
     let told : c.coordinate_fits.result ≡ coordinate_in_range (centre c.args.pitch c.args.origin c.args.a c.args.b) =
     rw (to_z-of_z c.ranges.origin) at c.coordinate_fits.ensures in
     let fits : coordinate_in_range (centre c.args.pitch c.args.origin c.args.a c.args.b) ≡ true =
-    sym (told) ∙ not-false _ c.if-not-coordinate_fits.false in record {
+    sym (told) ∙ c.if-not-coordinate_fits.false in record {
       pitch_value = c.requires;
       b_value = rw (to_z-of_z c.ranges.origin) (fits);
     }
@@ -34,7 +34,7 @@ coordinate_at-requires c =
     let told : c.coordinate_fits.result ≡ coordinate_in_range (centre c.args.pitch c.args.origin c.args.a c.args.b) =
     rw (to_z-of_z c.ranges.origin) at c.coordinate_fits.ensures in
     let fits : coordinate_in_range (centre c.args.pitch c.args.origin c.args.a c.args.b) ≡ true =
-    sym (told) ∙ not-false _ c.if-not-coordinate_fits.false in
+    sym (told) ∙ c.if-not-coordinate_fits.false in
     let at : to_z w64 (of_z w64 c.centre.result) ≡ centre c.args.pitch c.args.origin c.args.a c.args.b =
     let e = rw (to_z-of_z c.ranges.origin) at c.centre.ensures in
     ap (λ z. to_z w64 (of_z w64 z)) e ∙ to_z-of_z (ten_fits _ (fits)) in
@@ -45,7 +45,7 @@ returns c =
     let told : c.coordinate_fits.result ≡ coordinate_in_range (centre c.args.pitch c.args.origin c.args.a c.args.b) =
     rw (to_z-of_z c.ranges.origin) at c.coordinate_fits.ensures in
     let fits : coordinate_in_range (centre c.args.pitch c.args.origin c.args.a c.args.b) ≡ true =
-    sym (told) ∙ not-false _ c.if-not-coordinate_fits.false in
+    sym (told) ∙ c.if-not-coordinate_fits.false in
     let at : to_z w64 (of_z w64 c.centre.result) ≡ centre c.args.pitch c.args.origin c.args.a c.args.b =
     let e = rw (to_z-of_z c.ranges.origin) at c.centre.ensures in
     ap (λ z. to_z w64 (of_z w64 z)) e ∙ to_z-of_z (ten_fits _ (fits)) in

@@ -27,7 +27,7 @@ past spot pitch o size close a = spot + length (signed (centre pitch o a (a + si
 
 abbrev pub invariant-loop-a : goal.invariant-loop-a
 invariant-loop-a l = (l.a ≤ l.a-end) × (l.a-end ≡ lines - l.size)
-    × (found_square l.text l.spot l.pitch (to_z w64 l.origin) l.size l.close ≡ found_of (first (test l.text l.spot l.pitch (to_z w64 l.origin) l.size l.close) (from l.a (l.a-end - l.a))) (past l.spot l.pitch (to_z w64 l.origin) l.size l.close))
+    × (found_square l.text l.spot l.pitch l.origin l.size l.close ≡ found_of (first (test l.text l.spot l.pitch l.origin l.size l.close) (from l.a (l.a-end - l.a))) (past l.spot l.pitch l.origin l.size l.close))
 
 abbrev pub decreases-loop-a : goal.decreases-loop-a
 decreases-loop-a l = l.a-end - l.a

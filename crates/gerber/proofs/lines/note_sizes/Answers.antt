@@ -28,7 +28,7 @@ note_size-count-requires c = omega (arith, c.requires.1)
 pub loop-k-preserved : goal.loop-k-preserved
 loop-k-preserved c = let l = c.loop-k in
     let a = c.args in
-    let size = c.type_size.ensures ∙ ap (λ q. size_code (size_of q)) c.flash_at.ensures in
+    let size = c.size_of.ensures ∙ ap (λ q. size_code (size_of q)) c.flash_at.ensures in
     let w = c.note_size-count.ensures in
     (omega arith, omega (arith, w.more), omega (arith, w.as_long), l.invariant.3 ∙ used-next a.records.now l.sizes l.count a.flashes l.k (omega arith) size w)
 

@@ -39,11 +39,11 @@ put_bytes-requires c = let word = c.put_bytes-number in
       length_aperture c.args.pitch c.args.k (coded_size c.args.size),
       c.requires.size_in_bounds,
       word.ensures.past,
-      word.auto.0,
+      word.auto.room,
       number.ensures.past,
-      number.auto.0,
+      number.auto.room,
       form.ensures.past,
-      form.auto.0,
+      form.auto.room,
     )
 
 pub returns : goal.returns

@@ -22,11 +22,11 @@ put_bytes-requires c = omega (arith, c.requires, ap length (as_comment c.args.ve
 
 pub returns-then-version-eq-COMMENTS : goal.returns-then-version-eq-COMMENTS
 returns-then-version-eq-COMMENTS c = let p = c.put_bytes in
-    subst (λ bytes. Written c.args.room.now 0 bytes p.result p.new.0) (as_comment c.args.version c.if-version-eq-COMMENTS.true) p.ensures
+    subst (λ bytes. Written c.args.room.now 0 bytes p.result p.new.room) (as_comment c.args.version c.if-version-eq-COMMENTS.true) p.ensures
 
 pub put_bytes-requires-2 : goal.put_bytes-requires-2
 put_bytes-requires-2 c = omega (arith, c.requires, ap length (as_attribute c.args.version c.if-version-eq-COMMENTS.false))
 
 pub returns : goal.returns
 returns c = let p = c.put_bytes-2 in
-    subst (λ bytes. Written c.args.room.now 0 bytes p.result p.new.0) (as_attribute c.args.version c.if-version-eq-COMMENTS.false) p.ensures
+    subst (λ bytes. Written c.args.room.now 0 bytes p.result p.new.room) (as_attribute c.args.version c.if-version-eq-COMMENTS.false) p.ensures

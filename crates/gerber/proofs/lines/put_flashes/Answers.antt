@@ -20,7 +20,7 @@ use Rattle.gerber.proofs.Flashing.{Turn, lines_next, lines-over}
 use Rattle.gerber.proofs.lines.put_flashes.Goals as goal
 
 pub loop-k-init : goal.loop-k-init
-loop-k-init c = 
+loop-k-init c =
     let across : ℤ =
     to_z w64 (of_z w64 c.args.x) in
     let upward : ℤ =
@@ -40,45 +40,45 @@ pub size_of-size-requires : goal.size_of-size-requires
 size_of-size-requires c = subst Drawn (sym c.flash_at-q.ensures) (c.requires.pitch_value.1.drawn c.loop-k.k (omega arith))
 
 pub put_change-line-requires : goal.put_change-line-requires
-put_change-line-requires c = 
+put_change-line-requires c =
     let across : ℤ =
     to_z w64 (of_z w64 c.args.x) in
     let upward : ℤ =
     to_z w64 (of_z w64 c.args.y) in
     let codes : List ℕ =
     take c.args.count c.args.sizes.now in
-    let turn : Turn c.args.records.now (codes) c.loop-k.k (rectangle_of c.flash_at-q.result) c.type_size.result c.place_of.result =
-    record { flash = c.flash_at-q.ensures; sized = c.type_size.ensures; placed = c.place_of.ensures } in
+    let turn : Turn c.args.records.now (codes) c.loop-k.k (rectangle_of c.flash_at-q.result) c.size_of-size.result c.place_of.result =
+    record { flash = c.flash_at-q.ensures; sized = c.size_of-size.ensures; placed = c.place_of.ensures } in
     let opened : let a = c.args in
     code_lines a.pitch (across) (upward) (codes) c.loop-k.before (flashes_from a.records.now c.loop-k.k a.flashes)
-    ≡ selects_code c.loop-k.before c.type_size.result c.place_of.result
+    ≡ selects_code c.loop-k.before c.size_of-size.result c.place_of.result
     ++ (centre_line a.pitch (across) (upward) (rectangle_of c.flash_at-q.result)
-    ++ code_lines a.pitch (across) (upward) (codes) c.type_size.result (flashes_from a.records.now (c.loop-k.k + 1) a.flashes)) =
-    lines_next c.args.pitch (across) (upward) (codes) c.args.records.now c.args.flashes c.loop-k.before (turn) (omega arith) in
-    (
-  omega (arith, c.place_of.ensures, place-most c.type_size.result (codes), length-take c.args.count c.args.sizes.now),
-  fits_next c.loop-k.invariant.1 (selects_code c.loop-k.before c.type_size.result c.place_of.result) _ (opened),
+    ++ code_lines a.pitch (across) (upward) (codes) c.size_of-size.result (flashes_from a.records.now (c.loop-k.k + 1) a.flashes)) =
+    lines_next c.args.pitch (across) (upward) (codes) c.args.records.now c.args.flashes c.loop-k.before (turn) (omega arith) in (
+      omega (arith, c.place_of.ensures, place-most c.size_of-size.result (codes), length-take c.args.count c.args.sizes.now),
+      fits_next c.loop-k.invariant.1 (selects_code c.loop-k.before c.size_of-size.result c.place_of.result) _ (opened),
+    )
 
 pub put_centre-at-requires : goal.put_centre-at-requires
-put_centre-at-requires c = 
+put_centre-at-requires c =
     let across : ℤ =
     to_z w64 (of_z w64 c.args.x) in
     let upward : ℤ =
     to_z w64 (of_z w64 c.args.y) in
     let codes : List ℕ =
     take c.args.count c.args.sizes.now in
-    let turn : Turn c.args.records.now (codes) c.loop-k.k (rectangle_of c.flash_at-q.result) c.type_size.result c.place_of.result =
-    record { flash = c.flash_at-q.ensures; sized = c.type_size.ensures; placed = c.place_of.ensures } in
+    let turn : Turn c.args.records.now (codes) c.loop-k.k (rectangle_of c.flash_at-q.result) c.size_of-size.result c.place_of.result =
+    record { flash = c.flash_at-q.ensures; sized = c.size_of-size.ensures; placed = c.place_of.ensures } in
     let opened : let a = c.args in
     code_lines a.pitch (across) (upward) (codes) c.loop-k.before (flashes_from a.records.now c.loop-k.k a.flashes)
-    ≡ selects_code c.loop-k.before c.type_size.result c.place_of.result
+    ≡ selects_code c.loop-k.before c.size_of-size.result c.place_of.result
     ++ (centre_line a.pitch (across) (upward) (rectangle_of c.flash_at-q.result)
-    ++ code_lines a.pitch (across) (upward) (codes) c.type_size.result (flashes_from a.records.now (c.loop-k.k + 1) a.flashes)) =
+    ++ code_lines a.pitch (across) (upward) (codes) c.size_of-size.result (flashes_from a.records.now (c.loop-k.k + 1) a.flashes)) =
     lines_next c.args.pitch (across) (upward) (codes) c.args.records.now c.args.flashes c.loop-k.before (turn) (omega arith) in
     let selected : let a = c.args in
     Remains a.room.now a.spot (code_lines a.pitch (across) (upward) (codes) 0 (flashes_in a.flashes a.records.now)) c.put_change-line.new.room c.put_change-line.result
     (centre_line a.pitch (across) (upward) (rectangle_of c.flash_at-q.result)
-    ++ code_lines a.pitch (across) (upward) (codes) c.type_size.result (flashes_from a.records.now (c.loop-k.k + 1) a.flashes)) =
+    ++ code_lines a.pitch (across) (upward) (codes) c.size_of-size.result (flashes_from a.records.now (c.loop-k.k + 1) a.flashes)) =
     piece c.loop-k.invariant.1 _ _ (opened) c.put_change-line.ensures in
     let k = c.loop-k.k in
     let e = c.flash_at-q.ensures in
@@ -88,30 +88,30 @@ put_centre-at-requires c =
     }
 
 pub loop-k-preserved : goal.loop-k-preserved
-loop-k-preserved c = 
+loop-k-preserved c =
     let across : ℤ =
     to_z w64 (of_z w64 c.args.x) in
     let upward : ℤ =
     to_z w64 (of_z w64 c.args.y) in
     let codes : List ℕ =
     take c.args.count c.args.sizes.now in
-    let turn : Turn c.args.records.now (codes) c.loop-k.k (rectangle_of c.flash_at-q.result) c.type_size.result c.place_of.result =
-    record { flash = c.flash_at-q.ensures; sized = c.type_size.ensures; placed = c.place_of.ensures } in
+    let turn : Turn c.args.records.now (codes) c.loop-k.k (rectangle_of c.flash_at-q.result) c.size_of-size.result c.place_of.result =
+    record { flash = c.flash_at-q.ensures; sized = c.size_of-size.ensures; placed = c.place_of.ensures } in
     let opened : let a = c.args in
     code_lines a.pitch (across) (upward) (codes) c.loop-k.before (flashes_from a.records.now c.loop-k.k a.flashes)
-    ≡ selects_code c.loop-k.before c.type_size.result c.place_of.result
+    ≡ selects_code c.loop-k.before c.size_of-size.result c.place_of.result
     ++ (centre_line a.pitch (across) (upward) (rectangle_of c.flash_at-q.result)
-    ++ code_lines a.pitch (across) (upward) (codes) c.type_size.result (flashes_from a.records.now (c.loop-k.k + 1) a.flashes)) =
+    ++ code_lines a.pitch (across) (upward) (codes) c.size_of-size.result (flashes_from a.records.now (c.loop-k.k + 1) a.flashes)) =
     lines_next c.args.pitch (across) (upward) (codes) c.args.records.now c.args.flashes c.loop-k.before (turn) (omega arith) in
     let selected : let a = c.args in
     Remains a.room.now a.spot (code_lines a.pitch (across) (upward) (codes) 0 (flashes_in a.flashes a.records.now)) c.put_change-line.new.room c.put_change-line.result
     (centre_line a.pitch (across) (upward) (rectangle_of c.flash_at-q.result)
-    ++ code_lines a.pitch (across) (upward) (codes) c.type_size.result (flashes_from a.records.now (c.loop-k.k + 1) a.flashes)) =
+    ++ code_lines a.pitch (across) (upward) (codes) c.size_of-size.result (flashes_from a.records.now (c.loop-k.k + 1) a.flashes)) =
     piece c.loop-k.invariant.1 _ _ (opened) c.put_change-line.ensures in
     (omega arith, piece (selected) _ _ refl c.put_centre-at.ensures)
 
 pub returns : goal.returns
-returns c = 
+returns c =
     let across : ℤ =
     to_z w64 (of_z w64 c.args.x) in
     let upward : ℤ =

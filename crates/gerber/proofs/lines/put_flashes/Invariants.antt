@@ -21,8 +21,8 @@ use Rattle.gerber.proofs.lines.put_flashes.Given as goal
 
 abbrev pub invariant-loop-k : goal.invariant-loop-k
 invariant-loop-k l = (l.k ≤ l.flashes)
-    × Remains l.initial.room l.spot (code_lines l.pitch (to_z w64 l.x) (to_z w64 l.y) (take l.count l.sizes) 0 (flashes_in l.flashes l.records)) l.room l.at
-    (code_lines l.pitch (to_z w64 l.x) (to_z w64 l.y) (take l.count l.sizes) l.before (flashes_from l.records l.k l.flashes))
+    × Remains l.initial.room l.spot (code_lines l.pitch l.x l.y (take l.count l.sizes) 0 (flashes_in l.flashes l.records)) l.room l.at
+    (code_lines l.pitch l.x l.y (take l.count l.sizes) l.before (flashes_from l.records l.k l.flashes))
 
 abbrev pub decreases-loop-k : goal.decreases-loop-k
 decreases-loop-k l = l.flashes - l.k

@@ -25,13 +25,13 @@ use Rattle.gerber.proofs.read.keekaboor_read_gerber.Goals as goal
 pub returns-then-flash_room-lt-FLASH_ROOM : goal.returns-then-flash_room-lt-FLASH_ROOM
 returns-then-flash_room-lt-FLASH_ROOM c = let a = c.args in
     let o = c.refused-then-flash_room-lt-FLASH_ROOM.ensures ∙ ap (λ (z : Answer). (read_refused z []).outcome) c.refused.ensures in
-    (λ i. record { outcome = o i; flashes_after = a.flash-room.now })
-    ∙ sym (read_short a.version a.pitch a.x a.y a.text.now a.flash-room.now (lt-leb _ _ c.if-flash_room-lt-FLASH_ROOM.true))
+    (λ i. record { outcome = o i; flashes_after = a.flash_room.now })
+    ∙ sym (read_short a.version a.pitch a.x a.y a.text.now a.flash_room.now (lt-leb _ _ c.if-flash_room-lt-FLASH_ROOM.true))
 
 pub returns-then-format-ne-DONE : goal.returns-then-format-ne-DONE
 returns-then-format-ne-DONE c = let a = c.args in
-    (λ i. record { outcome = c.refused-then-format-ne-DONE.ensures i; flashes_after = a.flash-room.now })
-    ∙ sym (read_format a.version a.pitch a.x a.y a.text.now a.flash-room.now (le-leb _ _ c.if-flash_room-lt-FLASH_ROOM.false) c.format_checked-format.ensures c.if-format-ne-DONE.true)
+    (λ i. record { outcome = c.refused-then-format-ne-DONE.ensures i; flashes_after = a.flash_room.now })
+    ∙ sym (read_format a.version a.pitch a.x a.y a.text.now a.flash_room.now (le-leb _ _ c.if-flash_room-lt-FLASH_ROOM.false) c.format_checked-format.ensures c.if-format-ne-DONE.true)
 
 pub read_file-body-requires : goal.read_file-body-requires
 read_file-body-requires c =
@@ -51,8 +51,8 @@ returns-in-Bad c =
     let a = c.args in
     let given = told-bad (read_file a.pitch a.x a.y a.text.now) c.read_file-body.result (aside) (into) c.in-Bad.is in
     let o = c.refused-in-Bad.ensures ∙ ap (λ (z : Answer). (read_refused z []).outcome) c.at.ensures in
-    (λ i. record { outcome = o i; flashes_after = a.flash-room.now })
-    ∙ sym (read-line a.version a.pitch a.x a.y a.text.now a.flash-room.now (le-leb _ _ c.if-flash_room-lt-FLASH_ROOM.false) (passed) given)
+    (λ i. record { outcome = o i; flashes_after = a.flash_room.now })
+    ∙ sym (read-line a.version a.pitch a.x a.y a.text.now a.flash_room.now (le-leb _ _ c.if-flash_room-lt-FLASH_ROOM.false) (passed) given)
 
 pub overflow_mul-n : goal.overflow_mul-n
 overflow_mul-n c =
@@ -111,6 +111,6 @@ returns-in-Flashes c =
     let t = flashes in
     let n : ℕ = c.in-Flashes.n in
     let m : n * flash_record - 0 ≡ length t.0 * flash_record = omega (arith, t.2) in
-    let f = c.put_bytes.ensures.left ∙ ap (λ (j : ℕ). written a.flash-room.now 0 (take j (aside))) m ∙ ap (written a.flash-room.now 0) t.4 in
+    let f = c.put_bytes.ensures.left ∙ ap (λ (j : ℕ). written a.flash_room.now 0 (take j (aside))) m ∙ ap (written a.flash_room.now 0) t.4 in
     (λ i. record { outcome = record { answer = 0; place_x = 0; place_y = 0; flashes = t.2 i }; flashes_after = f i })
-    ∙ sym (read_all a.version a.pitch a.x a.y a.text.now a.flash-room.now (le-leb _ _ c.if-flash_room-lt-FLASH_ROOM.false) (passed) t.1)
+    ∙ sym (read_all a.version a.pitch a.x a.y a.text.now a.flash_room.now (le-leb _ _ c.if-flash_room-lt-FLASH_ROOM.false) (passed) t.1)

@@ -17,4 +17,4 @@ returns-in-Past c = let a = c.args in
     let r = c.read_apertures-apertures.ensures in
     let h = subst (HeadRead a.text.now) c.in-Past.is c.read_head-head.ensures in
     let f = c.read_flashes in
-    file-on-into a.pitch a.x a.y a.text.now c.read_apertures-apertures.new.sizes f.result f.new.1.1.1.1.1.1.1.0 r.1.held h r.0 (rw (to_z-of_z c.ranges.x, to_z-of_z c.ranges.y) at f.ensures)
+    file-on-into a.pitch a.x a.y a.text.now c.read_apertures-apertures.new.sizes f.result f.new.room r.1.held h r.0 (rw (to_z-of_z c.ranges.x, to_z-of_z c.ranges.y) at f.ensures)

@@ -19,7 +19,7 @@ use Rattle.gerber.proofs.read.read_flashes.Given as goal
 
 abbrev pub invariant-loop-line : goal.invariant-loop-line
 invariant-loop-line l = Sound l.count l.s × (l.s.line ≤ 2 * side + 2 * l.n)
-    × Sofar l.pitch (to_z w64 l.x) (to_z w64 l.y) l.text (coded_sizes (take l.count l.sizes)) (read_flashes side l.pitch (to_z w64 l.x) (to_z w64 l.y) l.text (coded_sizes (take l.count l.sizes)) [] l.initial.s) l.initial.room l.n l.s l.room
+    × Sofar l.pitch l.x l.y l.text (coded_sizes (take l.count l.sizes)) (read_flashes side l.pitch l.x l.y l.text (coded_sizes (take l.count l.sizes)) [] l.initial.s) l.initial.room l.n l.s l.room
 
 abbrev pub decreases-loop-line : goal.decreases-loop-line
 decreases-loop-line l = side - l.n

@@ -58,5 +58,5 @@ returns c =
     c.requires.2.current (used) in
     let a = c.args in
     c.read_flash.ensures
-    ∙ (λ i. turn_of (flash_turn a.pitch (to_z-of_z c.fits.x i) (to_z-of_z c.fits.y i) a.s (placed_at a.pitch (to_z-of_z c.fits.x i) (to_z-of_z c.fits.y i) a.text.now (coded_size (get_or a.sizes.now a.s.current 0)) a.s.at)))
+    ∙ (λ i. turn_of (flash_turn a.pitch (to_z-of_z c.ranges.x i) (to_z-of_z c.ranges.y i) a.s (placed_at a.pitch (to_z-of_z c.ranges.x i) (to_z-of_z c.ranges.y i) a.text.now (coded_size (get_or a.sizes.now a.s.current 0)) a.s.at)))
     ∙ sym (ap (λ (o : Option Rectangle). turn_of (flash_turn a.pitch a.x a.y a.s o)) (one_current a.pitch a.x a.y a.text.now a.count a.sizes.now a.s (used) (defined)))

@@ -77,7 +77,7 @@ returns-then-place_of-count c =
     let width = sym c.find_side.ensures ∙ c.in-At.is in
     let height = sym c.find_side-2.ensures ∙ c.in-At-find_side.is in
     let p = coded_place c.args.count c.args.sizes.now c.requires.1.held _ _ (found-bounds c.args.pitch c.requires.0 c.args.text.now (coded_sizes (take c.args.count c.args.sizes.now)) c.args.count c.args.spot (many) word number width height).3 c.place_of.ensures c.if-place_of-count.true in
-    sym (ap (λ o§Then1§2. size_found c (λ z. c.args.spot + length (aperture_line c.args.pitch c.args.count z))) (aperture_again c.args.pitch c.requires.0 c.args.text.now (coded_sizes (take c.args.count c.args.sizes.now)) c.args.count c.args.spot (many) word number width height p))
+    sym (ap (λ o. size_found o (λ z. c.args.spot + length (aperture_line c.args.pitch c.args.count z))) (aperture_again c.args.pitch c.requires.0 c.args.text.now (coded_sizes (take c.args.count c.args.sizes.now)) c.args.count c.args.spot (many) word number width height p))
 
 pub returns : goal.returns
 returns c =

@@ -1,5 +1,5 @@
 -- Each exit by its law.
-use Rattle.std.proofs.Common.{arith}
+use Rattle.std.proofs.Common.{List, arith}
 use borrow.Author.Rules.{rules}
 use mathlib.Core.Path.{◌≡◌, refl, sym, ap, subst, ◌∙◌}
 use mathlib.Core.Logic.{by_cases}
@@ -16,6 +16,12 @@ use Rattle.gerber.specs.declared.turns.Reached.{Reached}
 use Rattle.gerber.proofs.CodedSizes.{coded_length}
 use Rattle.gerber.proofs.TurnLaws.{select_bound, select-past, turned-select, turned-end, end-past, turned_on, selected-sound}
 use Rattle.gerber.proofs.turns.take_turn.Goals as goal
+
+-- the turn of a flash, with the origin as it was given
+given_turn : (pitch : ℕ) (x y x' y' : ℤ) (text codes : List ℕ) (count : ℕ) (t : Reached) → x' ≡ x → y' ≡ y
+    → turn_of (flash_turn pitch x' y' t (flash_at pitch x' y' text (coded_sizes (take count codes)) t))
+    ≡ turn_of (flash_turn pitch x y t (flash_at pitch x y text (coded_sizes (take count codes)) t))
+given_turn pitch x y x' y' text codes count t e f = λ i. turn_of (flash_turn pitch (e i) (f i) t (flash_at pitch (e i) (f i) text (coded_sizes (take count codes)) t))
 
 pub selected-requires : goal.selected-requires
 selected-requires c =
@@ -44,7 +50,7 @@ returns-in-At c =
     let e = sym c.read_select.ensures ∙ c.in-At.is in
     let a = c.args in
     c.flash_turn.ensures
-    ∙ given c c.selected.result
+    ∙ given_turn a.pitch a.x a.y _ _ a.text.now a.sizes.now a.count c.selected.result (to_z-of_z c.ranges.x) (to_z-of_z c.ranges.y)
     ∙ ap (λ t. turn_of (flash_turn a.pitch a.x a.y t (flash_at a.pitch a.x a.y a.text.now (coded_sizes (take a.count a.sizes.now)) t))) c.selected.ensures
     ∙ sym (ap turn_of (turned-select a.pitch a.x a.y a.text.now (coded_sizes (take a.count a.sizes.now)) a.count (many) a.s e))
 
@@ -72,5 +78,5 @@ returns c =
     let a = c.args in
     let e = sym c.read_select.ensures ∙ c.in_default.is in
     c.flash_turn-2.ensures
-    ∙ given c a.s
+    ∙ given_turn a.pitch a.x a.y _ _ a.text.now a.sizes.now a.count a.s (to_z-of_z c.ranges.x) (to_z-of_z c.ranges.y)
     ∙ sym (ap turn_of (turned_on a.pitch a.x a.y a.text.now (coded_sizes (take a.count a.sizes.now)) a.count (many) a.s e (sym c.read_word.ensures ∙ c.in_default-read_word.is)))

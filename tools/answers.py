@@ -62,6 +62,21 @@ def labels():
     return out
 
 
+def source_names(crate, fn, text):
+    """Paths' segments that are parameters or variables of the function, as the source spells them."""
+    parts = fn.split("/")
+    for f in (f"crates/{crate}/src/{parts[0]}.rt", f"crates/{crate}/src/lib.rt", f"crates/{crate}/src/main.rt"):
+        if not os.path.exists(f):
+            continue
+        with open(f, encoding="utf-8") as it:
+            m = re.search(r"(?m)^( *)(?:pub )?(?:extern \"C\" )?fn " + re.escape(parts[-1]) + r"\b.*?^\1\}", it.read(), re.S)
+        if m:
+            for w in set(re.findall(r"[A-Za-z]\w*_\w+", m[0])):
+                text = re.sub(r"(?<=\.)" + re.escape(w.replace("_", "-")) + r"(?=[\s.(){};,]|$)", w, text)
+            return text
+    return text
+
+
 LABELS = {}
 
 
@@ -185,7 +200,7 @@ class Fn:
             if not m:
                 break
             segs = m[2].split(".")
-            if segs[0] in env and "given" in segs:
+            if segs[0] in env and ("given" in segs or re.search(r"(?<![^\s(){};,@])" + re.escape(m[1]) + r"\.(?:new|auto|came|given|ensures\.\d)(?=[\s.(){};,]|$)", text[m.end():])):
                 # what a pattern bound, taken whole: each use of it is a path of its own
                 post = re.sub(r"(?<![^\s(){};,@])" + re.escape(m[1]) + r"(?=[\s.(){};,]|$)", lambda _: m[2], text[m.end():])
                 text = text[: m.start()] + post
@@ -386,6 +401,7 @@ def with_lets(F, t, macros):
 
     def plain(x):
         for n in used:
+            x = re.sub(r"\(" + re.escape(n) + r" c\)", n, x)
             x = re.sub(word(n), n, x)
         return x
 
@@ -483,6 +499,10 @@ def turn(crate, fn, entry, folder):
         m = re.match(r"tie\.Need-(\S+)", sig)
         if m:
             old = bare_need(m[1])
+            if old not in F.needs and re.fullmatch(r"\w+-t\d+", old):
+                # a goal with no name of the source's: the only one of its kind
+                kin = [o for o in F.needs if re.fullmatch(old.split("-")[0] + r"-t\d+", o)]
+                old = kin[0] if len(kin) == 1 else old
             if old not in F.needs:
                 F.left.append(f"no goal {old}: {body[:60]!r}")
                 continue
@@ -500,6 +520,9 @@ def turn(crate, fn, entry, folder):
                 F.left.append(f"helper {name}: several clauses")
                 continue
             m = re.match(r"\(([^\s:]+) : tie\.([^\s)]+)[^)]*\)\s*→\s*(.*)|tie\.(\S+)[^→]*→\s*(.*)", sig, re.S)
+            if m is None:
+                F.left.append(f"helper {name}: its place is not read")
+                continue
             place = norm(m[2] or m[4])
             ty = m[3] or m[5]
             to = re.fullmatch(r"tie\.(\S+)(?: (?:invariant|decreases)\S+)*", ty.strip())
@@ -609,6 +632,12 @@ def turn(crate, fn, entry, folder):
                 if callee.split("::")[-1] == m[1] and len(LABELS.get(callee, ([], []))[1]) > 1:
                     t = recorded(t, LABELS[callee][1])
                     break
+        t = re.sub(r"not[-_](?:true|false) _ (c\.[^\s()]+\.(?:true|false))", r"\1", t)
+        # a field of our own records that an earlier script took for the kit's
+        t = re.sub(r"(?<=\))\.ranges(?=[\s(){};,]|$)", ".fits", t)
+        for n in macros:
+            t = re.sub(r"(?<![^\s(){};,@])" + re.escape(n) + r"\.ranges(?=[\s(){};,]|$)", n + ".fits", t)
+        t = source_names(crate, fn, t)
         unf = joined(unf, more)
         if re.fullmatch(r"\s*(search rules|search needs)\s*", t):
             continue

@@ -2,10 +2,9 @@
 -- From the chain's laws (grid). `list_checked` uses it.
 use mathlib.Core.Path.{◌≡◌, refl, sym, ap, ◌∙◌}
 use mathlib.Core.Bool.{Bool, true, false}
-use mathlib.Core.List.{List, [], ◌∷◌}
-use mathlib.Core.Option.{Option, none, some}
-use Prim.Native.Nat.{ℕ, suc, ◌+◌, ◌-◌, ◌≤◌, ◌<◌}
-use native.Mathlib.Numerals.{add-one}
+use mathlib.Core.List.{List}
+use mathlib.Core.Option.{none, some}
+use Prim.Native.Nat.{ℕ, suc, ◌+◌, ◌-◌, ◌<◌}
 use native.Mathlib.Omega.{arith}
 use lib.Dec.{leb}
 use lib.ListN.{length}
@@ -14,7 +13,7 @@ use Rattle.grid.specs.Limits.{list_limit}
 use Rattle.grid.specs.Answers.{answer, done, check, or_else, first_refusal, bad_list_line, list_long}
 use Rattle.grid.specs.declared.answers.Answer.{Answer}
 use Rattle.grid.proofs.Chain.{stands}
-use Rattle.listcheck.specs.FlashList.{flashes_of, flashes_at, end_at, line_not_ruled}
+use Rattle.listcheck.specs.FlashList.{flashes_of, end_at, line_not_ruled}
 use Rattle.listcheck.specs.Checked.{check_line, list_checks}
 use Rattle.listcheck.specs.Code.{lines_of}
 use Rattle.listcheck.specs.declared.lines.Lines.{Lines}

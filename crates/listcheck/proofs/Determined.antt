@@ -1,6 +1,6 @@
 -- No second outcome fits a public function's contract: what it returns and what it leaves behind each reference are determined.
 -- Each `ensures` is an equation with a definition.
-use mathlib.Core.Path.{◌≡◌, refl, sym, ap, ◌∙◌}
+use mathlib.Core.Path.{refl, sym, ap, ◌∙◌}
 use Rattle.grid.proofs.Outcome.{Determined}
 use Rattle.listcheck.specs.Checked.{Given}
 use Rattle.listcheck.proofs.lines.read_flash

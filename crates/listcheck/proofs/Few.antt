@@ -1,16 +1,15 @@
 -- The check never gives more marks than the grid has columns, so a print of them has its room.
 -- No marks but on sound; there as many as the cover has flashes, which are no more than the columns. The check program uses it.
-use mathlib.Core.Path.{◌≡◌, refl, sym, ap, subst}
+use mathlib.Core.Path.{refl, sym, subst}
 use mathlib.Core.List.{List}
 use Prim.Native.Nat.{ℕ, ◌≤◌}
 use native.Mathlib.Omega.{arith}
-use lib.ListN.{length}
 use Rattle.lists.proofs.Truth.{ocase, and_left}
 use Rattle.grid.specs.Limits.{side}
 use Rattle.grid.specs.Answers.{first_refusal}
 use Rattle.grid.specs.Squares.{Area, Rectangle}
 use Rattle.grid.specs.Raster.{area_of, side_fits, size_fits}
-use Rattle.grid.proofs.Chain.{Passes, pcase, chain-passed, check-passed}
+use Rattle.grid.proofs.Chain.{pcase, chain-passed, check-passed}
 use Rattle.cover.proofs.Checks.{fits-side}
 use Rattle.cover.proofs.Covering.{flashes-short}
 use Rattle.cover.proofs.MarkLaws.{marks-flashes}

@@ -4,14 +4,14 @@ use mathlib.Core.Path.{◌≡◌, refl, sym, ap, ap₂, ◌∙◌}
 use mathlib.Core.Bool.{Bool, true, false, not, ◌&&◌}
 use mathlib.Core.List.Memᴰ
 use mathlib.Core.List.{List, [], ◌∷◌}
-use mathlib.Core.Logic.{◌↔◌, ◌⊎◌, ⊎_elim}
-use mathlib.Core.Option.{Option, none, some, some-injective}
+use mathlib.Core.Logic.{◌↔◌, ⊎_elim}
+use mathlib.Core.Option.{none, some, some-injective}
 use Prim.Native.Nat.{ℕ, zero, suc, ◌+◌, ◌-◌, ◌*◌, ◌/◌, ◌%◌, ◌≤◌, ◌<◌}
 use native.Mathlib.Nat.{mul-add-mod_self_right, mod-eq_of_lt, div-eq_of_lt, mul-add-div_right, mul-le-mul_right, div-add-mod'}
 use native.Mathlib.Omega.{arith}
 use lib.Dec.{leb, ltb}
 use lib.ListN.{length}
-use borrow.Author.Tests.{leb-true, le-leb, lt-ltb, not-true, not-false}
+use borrow.Author.Tests.{leb-true, le-leb, lt-ltb, not-true}
 use Rattle.lists.specs.Lists.{any, from}
 use Rattle.lists.proofs.Truth.{bcase, ocase, never, missing, and_left, and_right, and_both}
 use Rattle.lists.proofs.Members.{In, any_of, any_found, all_of, all_if}

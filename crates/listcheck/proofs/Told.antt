@@ -2,22 +2,20 @@
 -- The chain's elimination law parts the two; `judged` has three ways, and Sound says what each means. The least number is that of our flashes.
 use mathlib.Core.Path.{◌≡◌, refl, sym, ap, subst, ◌∙◌}
 use mathlib.Core.List.{List}
-use mathlib.Core.Logic.{◌↔◌, ◌⊎◌, inl, inr}
+use mathlib.Core.Logic.{◌↔◌, inl, inr}
 use mathlib.Core.Option.{none, some}
-use Prim.Native.Nat.{ℕ, zero, suc, ◌+◌, ◌≤◌}
+use Prim.Native.Nat.{ℕ}
 use native.Mathlib.Omega.{arith}
-use lib.Dec.{leb}
 use lib.ListN.{length}
 use Rattle.lists.proofs.Truth.{ocase, never}
 use Rattle.lists.proofs.Members.{In}
 use Rattle.lists.proofs.Pairs.{in_at}
-use Rattle.grid.specs.Answers.{done, first_refusal, broken_column}
-use Rattle.grid.specs.Squares.{Area, InGrid, Unbroken, Rectangle, Square, Cover, Least, Evidence, InCopper, rectangle_at}
+use Rattle.grid.specs.Answers.{first_refusal}
+use Rattle.grid.specs.Squares.{Area, InGrid, Unbroken, Rectangle, Square, Least, Evidence, rectangle_at}
 use Rattle.grid.specs.Raster.{area_of, broken_square}
-use Rattle.grid.specs.declared.answers.Answer.{Answer}
 use Rattle.grid.proofs.Areas.{area_in_grid}
 use Rattle.grid.proofs.Broken.{raster-unbroken}
-use Rattle.grid.proofs.Chain.{Passes, pcase, Each, chain-passed, check_at-passed}
+use Rattle.grid.proofs.Chain.{Passes, pcase, chain-passed, check_at-passed}
 use Rattle.grid.proofs.Pigeonhole as Pigeonhole
 use Rattle.cover.specs.Flashes.{flashes}
 use Rattle.cover.specs.Marks.{marks}
@@ -26,8 +24,8 @@ use Rattle.cover.proofs.MarkLaws.{marks_evidence, marks-flashes}
 use Rattle.cover.proofs.Records.{marks-read}
 use Rattle.listcheck.specs.FlashList.{flashes_of}
 use Rattle.listcheck.specs.Verdict.{bad_line, bare_square}
-use Rattle.listcheck.specs.Checked.{Given, sound, bad_at, bare_at, sound_with, judged, refused_at, or_verdict, checks, check_gives, Gives}
-use Rattle.listcheck.specs.Told.{FirstBad, FirstBare, Weighed, Told, Refused}
+use Rattle.listcheck.specs.Checked.{Given, sound, bad_at, bare_at, sound_with, judged, checks, check_gives, Gives}
+use Rattle.listcheck.specs.Told.{Told, Refused}
 use Rattle.listcheck.specs.declared.entry.Checked.{Checked}
 use Rattle.listcheck.proofs.Sound as Sound
 use Rattle.listcheck.proofs.Judged.{judged-bad, judged-bare, judged-sound}

@@ -9,7 +9,6 @@ use Rattle.text.specs.Words.{begins}
 use Rattle.text.specs.Decimal.{digits, decimal, run, value}
 use Rattle.text.specs.Line.{line, numbers_from, line_at}
 use Rattle.cover.specs.Slices.{copper_along}
-use Rattle.printed.specs.Printed.{flash_word}
 use Rattle.listcheck.specs.FlashList.{flash_line_at, flash_said, flashes_from, end_from, flashes_of, line_not_ruled}
 use Rattle.listcheck.specs.Verdict.{copper_rows, upright, on_grid, good, bad_from, bad_line, between, holds_square, bare, first_bare, bare_square}
 

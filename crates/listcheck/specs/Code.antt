@@ -1,13 +1,12 @@
 -- What only the contracts of inner functions name: the code's values read as the rules' ones, and the chain in the parts in which the code asks it.
-use Rattle.std.specs.Prelude.{List, ℕ, ◌≤◌, length}
+use Rattle.std.specs.Prelude.{List, ℕ, length}
 use Rattle.std.proofs.Math.Option.{Option, none, some}
-use Rattle.grid.specs.Limits.{mark_room_size}
 use Rattle.grid.specs.Lines.{column, row}
-use Rattle.grid.specs.Squares.{Area, Rectangle, Unbroken, Cover}
+use Rattle.grid.specs.Squares.{Rectangle}
 use Rattle.text.specs.declared.read.Next.{Next}
 use Rattle.text.specs.declared.read.Next.TheVariants.{Spot, Nothing as NoLine}
 use Rattle.cover.specs.declared.flashes.Flash.{Flash}
-use Rattle.listcheck.specs.FlashList.{flash_line_at, flash_said, flashes_of, end_at}
+use Rattle.listcheck.specs.FlashList.{flashes_of, end_at}
 use Rattle.listcheck.specs.declared.lines.Said.{Said}
 use Rattle.listcheck.specs.declared.lines.Said.TheVariants.{Flash as FlashLine, Nothing}
 use Rattle.listcheck.specs.declared.lines.Lines.{Lines}

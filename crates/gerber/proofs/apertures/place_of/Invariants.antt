@@ -1,0 +1,15 @@
+-- The invariant: what was asked is what is asked of the sizes that are left.
+use Rattle.std.proofs.Common.{arith}
+use mathlib.Core.Path.{◌≡◌, sym, ◌∙◌}
+use Prim.Native.Nat.{◌≤◌, ◌-◌, ◌+◌}
+use native.Mathlib.Nat.{zero-add}
+use lib.ListN.{length, take, drop}
+use Rattle.gerber.specs.Code.{place_in}
+use Rattle.gerber.proofs.Codes.{place-hit, place-turn, place-over}
+use Rattle.gerber.proofs.apertures.place_of.Given as goal
+
+abbrev pub invariant-loop-k : goal.invariant-loop-k
+invariant-loop-k l = (l.k ≤ l.count) × (place_in l.size (take l.count l.sizes) ≡ l.k + place_in l.size (drop l.k (take l.count l.sizes)))
+
+abbrev pub decreases-loop-k : goal.decreases-loop-k
+decreases-loop-k l = l.count - l.k

@@ -1,0 +1,20 @@
+-- Nothing where the size is the one before, else the line that selects.
+use Rattle.std.proofs.Common.{arith}
+use borrow.Author.Rules.{rules}
+use mathlib.Core.Path.{◌≡◌, sym, ap}
+use mathlib.Core.Bool.{true, false}
+use lib.ListN.{length}
+use borrow.Author.Tests.{eq-eqb, ne_eqb}
+use Rattle.grid.proofs.Writing.{written_none}
+use Rattle.gerber.specs.Code.{selects_code}
+use Rattle.gerber.proofs.lines.put_change.Goals as goal
+
+pub returns-then-before-size : goal.returns-then-before-size
+returns-then-before-size c = let a = c.args in
+    rw (eq-eqb a.before a.size c.if-before-size.true) (record { past = omega arith; left = sym (written_none a.room.now a.spot) })
+
+pub put_select-requires : goal.put_select-requires
+put_select-requires c = (c.requires.0, rw (ne_eqb c.args.before c.args.size c.if-before-size.false) at c.requires.1)
+
+pub returns : goal.returns
+returns c = rw (ne_eqb c.args.before c.args.size c.if-before-size.false) c.put_select.ensures

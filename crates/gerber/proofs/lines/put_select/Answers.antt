@@ -1,0 +1,25 @@
+-- The pieces of the line, one after the other.
+use Rattle.std.proofs.Common.{arith}
+use borrow.Author.Rules.{rules}
+use mathlib.Core.Path.{refl}
+use Rattle.text.proofs.Onward.{start, piece, last}
+use Rattle.gerber.specs.File.{select_line}
+use Rattle.gerber.proofs.Pieces.{length-select}
+use Rattle.gerber.proofs.lines.put_select.Goals as goal
+
+pub put_bytes-number-requires : goal.put_bytes-number-requires
+put_bytes-number-requires c = omega (arith, length-select c.args.k)
+
+pub print_number-end-requires : goal.print_number-end-requires
+print_number-end-requires c = omega (arith, length-select c.args.k)
+
+pub put_bytes-requires : goal.put_bytes-requires
+put_bytes-requires c = omega (arith, length-select c.args.k)
+
+pub returns : goal.returns
+unfolding select_line
+returns c = last
+    (piece
+    (piece (start c.args.room.now c.args.spot (select_line c.args.k) c.requires.1) _ _ refl c.put_bytes-number.ensures)
+    _ _ refl c.print_number-end.ensures)
+    _ refl c.put_bytes.ensures

@@ -1,0 +1,20 @@
+-- The invariant: what was asked is what is asked from here on, with the sizes of the table.
+use Rattle.std.proofs.Common.{arith}
+use borrow.Author.Rules.{rules}
+use mathlib.Core.Path.{◌≡◌, refl, sym, ap, ◌∙◌}
+use mathlib.Core.List.{[]}
+use Prim.Native.Nat.{ℕ, ◌+◌, ◌-◌, ◌≤◌, ◌<◌}
+use lib.ListN.{length, take, length-set}
+use Rattle.grid.specs.Limits.{side}
+use Rattle.gerber.specs.Code.{coded_sizes}
+use Rattle.gerber.specs.Reading.{read_apertures}
+use Rattle.gerber.specs.Parts.{SizesHeld}
+use Rattle.gerber.proofs.ApertureTurns.{apertures-stop, apertures-turn, apertures-all, one-held}
+use Rattle.gerber.proofs.read.read_apertures.Given as goal
+
+abbrev pub invariant-loop-k : goal.invariant-loop-k
+invariant-loop-k l = (l.k ≤ side) × (length l.sizes ≡ length l.initial.sizes) × SizesHeld l.k l.sizes
+    × (read_apertures side l.pitch l.text (record { sizes = []; past = l.spot }) ≡ read_apertures (side - l.k) l.pitch l.text (record { sizes = coded_sizes (take l.k l.sizes); past = l.at }))
+
+abbrev pub decreases-loop-k : goal.decreases-loop-k
+decreases-loop-k l = side - l.k

@@ -1,0 +1,15 @@
+-- The two tests one after the other.
+use Rattle.std.proofs.Common.{arith}
+use borrow.Author.Rules.{rules}
+use borrow.Author.Tests.{eq-eqb, ne_eqb}
+use mathlib.Core.Path.{◌≡◌, refl, sym, ap, ◌∙◌}
+use Rattle.gerber.proofs.turns.end_turn.Goals as goal
+
+pub returns-then-s-count : goal.returns-then-s-count
+returns-then-s-count c = rw (ne_eqb _ _ c.if-s-count.true)
+
+pub returns-then-end-text : goal.returns-then-end-text
+returns-then-end-text c = rw (eq-eqb _ _ c.if-s-count.false, ← c.requires.1, ne_eqb _ _ c.if-end-text.true)
+
+pub returns : goal.returns
+returns c = rw (eq-eqb _ _ c.if-s-count.false, ← c.requires.1, eq-eqb _ _ c.if-end-text.false)

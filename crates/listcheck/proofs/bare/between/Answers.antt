@@ -1,0 +1,12 @@
+-- `between` meets its contract: the two tests one after the other are the conjunction.
+use borrow.Author.Tests.{le-leb, lt-leb}
+use Rattle.listcheck.specs.Verdict.{between}
+use Rattle.listcheck.proofs.bare.between.Goals as goal
+
+pub returns-then-low-n : goal.returns-then-low-n
+unfolding between
+returns-then-low-n c = rw (le-leb _ _ c.if-low-n.true)
+
+pub returns-else-low-n : goal.returns-else-low-n
+unfolding between
+returns-else-low-n c = rw (lt-leb _ _ c.if-low-n.false)

@@ -24,6 +24,8 @@ EXAMPLES = {
     "flashlist/proofs/Plus.antt",
     "printed/proofs/Example.antt",
 }
+# a line whose number is none of the grid's: the system's longest path
+OTHERS = {("checklist/src/main.rt", "const PATH_ROOM: usize = 4096;")}
 
 
 def code(line, comment):
@@ -45,7 +47,7 @@ def main():
         comment = "//" if path.suffix == ".rt" else "--"
         for number, line in enumerate(path.read_text(encoding="utf-8").split("\n"), 1):
             found = NUMBERS.search(code(line, comment))
-            if found:
+            if found and (name, line.strip()) not in OTHERS:
                 print(f"error: {path}:{number}: {found.group(0)} stands here: {line.strip()}")
                 bad += 1
     print(f"{looked} files name no limit by its number" if bad == 0 else f"{bad} lines name a limit by its number")

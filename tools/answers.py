@@ -568,12 +568,6 @@ def turn(crate, fn, entry, folder):
                 inline = [a for a in goals if a.startswith("(λ") and not re.fullmatch(r"\(λ \S+(?: \S+)?\. (?:search rules|omega arith|search needs)\)", a)]
                 if inline:
                     F.left.append(f"{len(goals)} goals in the file, {len(F.order)} today: {inline}")
-                # align what can be: by the named ones
-                given = {}
-                k = 0
-                for a in goals:
-                    if a.startswith("(λ"):
-                        continue
             else:
                 for a, old in zip(goals, F.order):
                     m2 = re.fullmatch(r"\(λ (\S+)( \S+)?\. (.*)\)", a, re.S)
@@ -581,7 +575,6 @@ def turn(crate, fn, entry, folder):
                         continue
                     new, place = F.needs[old]
                     answers.append(([], new, place, [m2[1]] + ([m2[2].strip()] if m2[2] else []), "", m2[3]))
-        rest = re.search(r"tie\.close", s)
     uses = [l for l in head if l.startswith("use ") and not re.search(r"\.Tie as tie|\.Statement\.|\.Reads as|\.Lts as| as reads| as lts|^use native.Mathlib.Omega.\{arith\}", l)]
     omega = "use Rattle.std.proofs.Common.{arith}"
     comment = [l for l in head if l.startswith("--")]

@@ -1,15 +1,12 @@
 -- A column's bottom and end, taken row by row, are its lowest copper row and one more than its highest.
 -- By induction on the rows: the end is 0 exactly while no copper was met. `columns_checked` uses it.
 use mathlib.Core.Path.{◌≡◌, refl, sym, ap, ◌∙◌}
-use mathlib.Core.Bool.{true, false, cond, ◌&&◌}
+use mathlib.Core.Bool.{true, false}
 use mathlib.Core.List.{[], ◌∷◌, ◌++◌}
-use mathlib.Core.Option.{Option, none, some}
-use Prim.Native.Nat.{ℕ, zero, suc, ◌+◌, ◌≤◌, ◌<◌}
+use Prim.Native.Nat.{ℕ, zero, suc, ◌+◌, ◌<◌}
 use native.Mathlib.Omega.{arith}
-use native.Mathlib.Numerals.{add-one}
-use lib.Dec.{eqb}
 use borrow.Author.Tests.{eq-eqb, ne_eqb}
-use Rattle.lists.specs.Lists.{first, from, up_to, down}
+use Rattle.lists.specs.Lists.{first, up_to}
 use Rattle.lists.proofs.Truth.{bcase, ocase, never}
 use Rattle.lists.proofs.Members.{first-append-none, first-append-some}
 use Rattle.lists.proofs.Ranges.{from-append}

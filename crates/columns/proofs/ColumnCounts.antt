@@ -1,22 +1,20 @@
 -- The heights of an unbroken area's columns, summed up, are its copper number: a column has as many copper squares as rows from its bottom to its end.
 -- The squares counted by rows are those counted by columns. The cover uses it.
 use mathlib.Core.Path.{◌≡◌, refl, sym, ap, ap₂, ◌∙◌}
-use mathlib.Core.Bool.{Bool, true, false, cond}
+use mathlib.Core.Bool.{Bool, true, cond}
 use mathlib.Core.List.{List, [], ◌∷◌, ◌++◌}
-use mathlib.Core.Option.{none, some}
 use mathlib.Core.Logic.{by_cases, ◌⊎◌, inl, inr, ⊎_elim}
-use Prim.Native.Nat.{ℕ, zero, suc, ◌+◌, ◌-◌, ◌≤◌, ◌<◌}
+use Prim.Native.Nat.{ℕ, zero, suc, ◌+◌, ◌-◌, ◌≤◌}
 use native.Mathlib.Decide.{ℕ_discrete}
 use native.Mathlib.Omega.{arith}
 use lib.Dec.{eqb}
-use lib.ListN.{length, get_or}
 use borrow.Author.Tests.{eqb-true, eq-eqb}
-use Rattle.lists.specs.Lists.{count, first, gather, from, up_to, down}
+use Rattle.lists.specs.Lists.{count, gather, from, up_to}
 use Rattle.lists.proofs.Truth.{bcase, ocase, never}
 use Rattle.lists.proofs.Counting.{count-append, count_map}
-use Rattle.lists.proofs.Ranges.{from_in, from-append}
+use Rattle.lists.proofs.Ranges.{from-append}
 use Rattle.lists.proofs.Searches.{down-within, down_above}
-use Rattle.lists.proofs.Totals.{total, total-same, count_swap}
+use Rattle.lists.proofs.Totals.{total, count_swap}
 use Rattle.grid.specs.Squares.{Area, Square, square, Unbroken, grid_squares, copper_number}
 use Rattle.grid.specs.Raster.{top_of}
 use Rattle.grid.proofs.GridSquares.{row_squares}

@@ -1,6 +1,6 @@
 -- The greatest and the least of some columns' numbers: one number more, and what lies above or below them all.
 -- By induction on the number of columns. `greatest` and `least` use it, and the heights of flashes.
-use mathlib.Core.Path.{◌≡◌, sym, ap, subst, ◌∙◌}
+use mathlib.Core.Path.{◌≡◌, ap}
 use mathlib.Core.List.{List}
 use mathlib.Core.Logic.{by_cases}
 use Prim.Native.Nat.{ℕ, zero, suc, ◌+◌, ◌-◌, ◌≤◌, ◌<◌, min, max}

@@ -1,17 +1,17 @@
 -- Where every byte of a raster fits, both checks of its bytes pass: each byte is 0 or 1, and no column is broken.
 -- Row by row a column's copper is one run up to its end, since copper in the next row comes at the end or begins it. `columns_checked` uses it.
-use mathlib.Core.Path.{◌≡◌, refl, sym, ap, subst, ◌∙◌}
-use mathlib.Core.Bool.{Bool, true, false, cond, ◌&&◌, ◌||◌}
+use mathlib.Core.Path.{◌≡◌, ap, subst, ◌∙◌}
+use mathlib.Core.Bool.{true, ◌&&◌, ◌||◌}
 use mathlib.Core.List.{List}
 use mathlib.Core.Option.{none}
 use mathlib.Core.Logic.{by_cases, ◌⊎◌, inl, inr, ⊎_elim}
-use Prim.Native.Nat.{ℕ, zero, suc, ◌+◌, ◌*◌, ◌/◌, ◌%◌, ◌≤◌, ◌<◌}
+use Prim.Native.Nat.{ℕ, zero, suc, ◌*◌, ◌/◌, ◌%◌, ◌≤◌, ◌<◌}
 use native.Mathlib.Decide.{ℕ_discrete, dec_le}
 use native.Mathlib.Nat.{div-add-mod', mod-lt, mul-le-mul_right, mul_comm}
 use native.Mathlib.Omega.{arith}
 use lib.Dec.{eqb, ltb}
 use lib.ListN.{length, get_or}
-use borrow.Author.Tests.{eqb-true, lt-ltb, le-ltb}
+use borrow.Author.Tests.{eqb-true, le-ltb}
 use Rattle.lists.proofs.Truth.{bcase, never, and_left, and_right}
 use Rattle.lists.proofs.Searches.{first-nowhere}
 use Rattle.grid.specs.Answers.{first_refusal, done}

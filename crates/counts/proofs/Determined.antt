@@ -1,7 +1,6 @@
 -- Every public function's contract determines its outcome: no second result fits, and nothing else behind a reference.
 -- Each `ensures` is an equation with a definition, or a record of such equations.
-use mathlib.Core.Path.{◌≡◌, refl, sym, ap, ◌∙◌}
-use Rattle.method.specs.Intervals.{Interval as Span}
+use mathlib.Core.Path.{refl, sym, ap, ◌∙◌}
 use Rattle.grid.specs.Lines.{interval_of}
 use Rattle.grid.proofs.Outcome.{Determined}
 use Rattle.counts.proofs.final_marks

@@ -21,7 +21,7 @@ use Rattle.grid.specs.Rooms.{written}
 use Rattle.grid.proofs.Writing.{length-written}
 use Rattle.intervals.specs.Finished.{bracket_bytes}
 use Rattle.intervals.specs.Table.{set_of, table_of, Tabled}
-use Rattle.intervals.proofs.TableLaws.{set-listed, set-table, tabled, left_as}
+use Rattle.intervals.proofs.TableLaws.{set-listed, left_as}
 use Rattle.counts.specs.Marks.{noted_for}
 use Rattle.counts.specs.Plain.{Struck}
 

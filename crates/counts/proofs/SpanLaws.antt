@@ -1,7 +1,7 @@
 -- Lists in a room: none, one more in front, one more behind, and what a moved record leaves. One step of a pass that strikes a column.
 -- By the list of numbers that are left, whose head is the next; `next_struck` and what goes over a list use it.
 use mathlib.Core.Path.{◌≡◌, refl, sym, ap, ap₂, subst, ◌∙◌}
-use mathlib.Core.Bool.{true, false, not}
+use mathlib.Core.Bool.{true, false}
 use mathlib.Core.List.{List, [], ◌∷◌, ◌++◌, map, append_assoc, append-nil}
 use Prim.Native.Nat.{ℕ, suc, ◌+◌, ◌-◌, ◌*◌, ◌≤◌, ◌<◌}
 use native.Mathlib.Omega.{arith}

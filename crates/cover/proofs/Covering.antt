@@ -9,7 +9,7 @@ use Rattle.lists.proofs.Members.{In}
 use Rattle.lists.proofs.Pairs.{in_at}
 use Rattle.lists.proofs.Positions.{at_in}
 use Rattle.lists.proofs.Ranges.{in_map, map_in}
-use Rattle.method.specs.Intervals.{Interval, holds, inside, member}
+use Rattle.method.specs.Intervals.{Interval, holds, member}
 use Rattle.method.specs.Final.{final}
 use Rattle.method.proofs.Lines.{holds-lines}
 use Rattle.method.proofs.Listed.{member_in, in_member, listed-lines}

@@ -1,12 +1,10 @@
 -- The rectangle of an interval by its columns' bottoms and ends is its flash, where some row is copper along it.
 -- A row is copper along the interval exactly where it lies from the greatest bottom to before the least end. The cover's work uses it.
-use mathlib.Core.Path.{◌≡◌, sym, ap, subst, ◌∙◌}
-use mathlib.Core.Bool.{true, false}
+use mathlib.Core.Path.{◌≡◌, sym, ap}
+use mathlib.Core.Bool.{true}
 use mathlib.Core.List.{List}
-use Prim.Native.Nat.{ℕ, ◌+◌, ◌-◌, ◌≤◌, ◌<◌}
+use Prim.Native.Nat.{ℕ, ◌-◌, ◌≤◌, ◌<◌}
 use native.Mathlib.Omega.{arith}
-use lib.ListN.{length}
-use Rattle.lists.specs.Lists.{first, up_to, down}
 use Rattle.lists.proofs.Truth.{fails}
 use Rattle.lists.proofs.Searches.{first-least, down-greatest}
 use Rattle.method.specs.Intervals.{Interval}

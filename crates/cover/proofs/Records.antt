@@ -1,17 +1,13 @@
 -- Records in a room: what is written is read back, the room keeps its length, and bytes past the records stay as they were.
 -- A record is a block of as many bytes as its size; what is written is the blocks and then the rest of the room. The demands read the lists back by it.
-use mathlib.Core.Path.{◌≡◌, refl, ap, sym, ◌∙◌}
-use mathlib.Core.List.{List, ◌∷◌, ◌++◌}
-use Prim.Native.Nat.{ℕ, suc, ◌+◌, ◌*◌, ◌≤◌}
-use native.Mathlib.Nat.{zero-add}
-use native.Mathlib.Omega.{arith}
-use lib.ListN.{length, get_or, take, drop}
-use lib.Seq.{drop-drop}
+use mathlib.Core.Path.{◌≡◌, refl, ap, ◌∙◌}
+use mathlib.Core.List.{List}
+use Prim.Native.Nat.{ℕ, ◌*◌}
+use lib.ListN.{length, drop}
 use Rattle.lists.specs.Lists.{gather}
 use Rattle.lists.proofs.Blocks.{blocks_length, blocks_read}
 use Rattle.grid.specs.Limits.{flash_record, mark_record}
 use Rattle.grid.specs.Squares.{Rectangle, Square}
-use Rattle.grid.specs.Rooms.{written, record_in}
 use Rattle.grid.proofs.Writing.{from_start, record_later}
 use Rattle.cover.specs.Records.{flash_bytes, mark_bytes, flash_of, mark_of, flashes_written, marks_written, flash_in, mark_in, flashes_in, marks_in}
 

@@ -1,12 +1,12 @@
 -- What only the contracts of inner functions name: the code's values read as the rules' ones, and what a step leaves behind.
 -- The promises of `keekaboor_cover` stand in Cover.antt and name none of it.
-use Rattle.std.specs.Prelude.{◌≡◌, Bool, true, false, not, cond, ◌&&◌, ◌||◌, List, [], ◌∷◌, ℕ, zero, suc, ◌+◌, ◌-◌, ◌*◌, ◌≤◌, ◌<◌, max, eqb, leb, ltb, length, get_or}
+use Rattle.std.specs.Prelude.{◌≡◌, Bool, true, not, cond, ◌&&◌, ◌||◌, List, [], ◌∷◌, ℕ, zero, suc, ◌+◌, ◌-◌, ◌*◌, ◌≤◌, ◌<◌, max, eqb, leb, ltb, length, get_or}
 use Rattle.lists.specs.Lists.{any, keep, gather, up_to}
 use Rattle.method.specs.Intervals.{Interval, proper, columns, beginning_at, select, member}
 use Rattle.grid.specs.Limits.{side, flash_record, mark_record, flash_room_size, mark_room_size, allowance_limit}
 use Rattle.grid.specs.Answers.{check, size_out, raster_length, flash_room_short, mark_room_short, allowance_out, allowance_short}
 use Rattle.grid.specs.Squares.{Area, Rectangle, Square}
-use Rattle.grid.specs.Lines.{column, row}
+use Rattle.grid.specs.Lines.{row}
 use Rattle.grid.specs.Raster.{size_fits, length_fits}
 use Rattle.grid.specs.Rooms.{written}
 use Rattle.grid.specs.declared.lines.Mark.{Mark}

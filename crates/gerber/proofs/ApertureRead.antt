@@ -2,30 +2,29 @@
 -- `read_aperture` goes by these laws, one for each of its exits.
 use mathlib.Core.Path.{◌≡◌, refl, sym, ap, subst, ◌∙◌}
 use mathlib.Core.Bool.{Bool, true, false, not, ◌&&◌}
-use mathlib.Core.List.{List, [], ◌∷◌, ◌++◌, map, append_assoc}
+use mathlib.Core.List.{List, ◌++◌, map, append_assoc}
 use mathlib.Core.Option.{Option, none, some}
-use Prim.Native.Nat.{ℕ, zero, suc, ◌+◌, ◌-◌, ◌*◌, ◌/◌, ◌%◌, ◌≤◌, ◌<◌}
+use Prim.Native.Nat.{ℕ, ◌+◌, ◌*◌, ◌/◌, ◌%◌, ◌≤◌, ◌<◌}
 use native.Mathlib.Nat.{mul-div_cancel}
 use native.Mathlib.Omega.{arith}
 use lib.Dec.{leb, eqb}
 use lib.ListN.{length, drop, length-append}
 use borrow.Author.Tests.{leb-true, not-true}
 use Rattle.lists.specs.Lists.{any, first, from}
-use Rattle.lists.proofs.Truth.{bcase, never, fails, and_left, and_right, and_both}
+use Rattle.lists.proofs.Truth.{never, fails, and_left, and_right, and_both}
 use Rattle.lists.proofs.Members.{In, none_first, first-only}
 use Rattle.lists.proofs.Ranges.{in_from, from_in, in_map, map_in, in_gather, gather_in}
 use Rattle.lists.proofs.Searches.{first-within, first-missed}
 use Rattle.grid.specs.Limits.{side}
 use Rattle.text.specs.declared.read.Next.TheVariants.{Spot, Nothing}
 use Rattle.text.specs.Decimal.{decimal}
-use Rattle.text.specs.Words.{stands, found, word_at}
+use Rattle.text.specs.Words.{stands, word_at}
 use Rattle.text.proofs.Stands.{stands-append}
 use Rattle.text.proofs.Passes.{found-spot}
 use Rattle.gerber.specs.File.{Size, bytes, first_number, millimetres, aperture_line, is_same_size, pitch_in_range, pitch_fits}
 use Rattle.gerber.specs.Code.{size_code}
 use Rattle.gerber.specs.Reading.{grid_sizes, aperture_at}
 use Rattle.gerber.specs.Parts.{found_of, side_at, found_side, size_found}
-use Rattle.gerber.specs.declared.found.Found.{Found}
 use Rattle.gerber.specs.declared.found.Found.TheVariants.{At, Nothing as NotFound}
 use Rattle.gerber.proofs.Apart.{both_stand, length-apart}
 use Rattle.gerber.proofs.Compared.{found_nothing}

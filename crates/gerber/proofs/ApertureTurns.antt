@@ -1,17 +1,17 @@
 -- The apertures of a file, one after the other: a line that is none ends them, another adds its size to the table. `read_apertures` goes by the two laws.
 use mathlib.Core.Path.{◌≡◌, refl, sym, ap, subst, ◌∙◌}
-use mathlib.Core.Bool.{Bool, true, false, not, ◌&&◌}
-use mathlib.Core.List.{List, [], ◌∷◌, ◌++◌, map}
+use mathlib.Core.Bool.{not, ◌&&◌}
+use mathlib.Core.List.{List, [], ◌∷◌, ◌++◌}
 use mathlib.Core.Logic.{by_cases}
 use mathlib.Core.Option.{Option, none, some}
-use Prim.Native.Nat.{ℕ, zero, suc, ◌+◌, ◌-◌, ◌*◌, ◌/◌, ◌%◌, ◌≤◌, ◌<◌}
+use Prim.Native.Nat.{ℕ, zero, suc, ◌+◌, ◌-◌, ◌/◌, ◌%◌, ◌≤◌, ◌<◌}
 use native.Mathlib.Decide.{ℕ_discrete}
 use native.Mathlib.Omega.{arith}
 use native.Mathlib.Numerals.{add-one}
 use lib.ListN.{length, take, get_or, set, length-set}
 use lib.Seq.{take-suc-set, get_or-set_same, get_or-set_other}
-use Rattle.lists.specs.Lists.{any, first}
-use Rattle.lists.proofs.Members.{In, first_found}
+use Rattle.lists.specs.Lists.{any}
+use Rattle.lists.proofs.Members.{first_found}
 use Rattle.lists.proofs.Ranges.{map-append}
 use Rattle.grid.specs.Limits.{side, lines}
 use Rattle.text.specs.Words.{stands}

@@ -1,18 +1,18 @@
 -- A cover held back: what the cover gives in rooms of one's own tells what it gives in the lent rooms. The same numbers, and the records put into the lent rooms.
 -- Both rooms are long enough, so the checks say the same; refusals write nothing. `keekaboor_write_gerber` stands on it.
 use mathlib.Core.Path.{◌≡◌, refl, sym, ap, subst, ◌∙◌}
-use mathlib.Core.Bool.{Bool, true, false, ◌&&◌}
-use mathlib.Core.List.{List, [], ◌∷◌, ◌++◌, map}
+use mathlib.Core.Bool.{true, false}
+use mathlib.Core.List.{List, [], ◌∷◌, map}
 use mathlib.Core.Logic.{◌⊎◌, inl, inr}
 use Prim.Native.Nat.{ℕ, zero, suc, ◌+◌, ◌*◌, ◌≤◌, ◌<◌}
 use native.Mathlib.Nat.{add-zero, zero-add}
 use native.Mathlib.Omega.{arith}
 use lib.Dec.{leb, ltb}
-use lib.ListN.{length, take, drop, length-take, get_or}
+use lib.ListN.{length, take, drop, length-take}
 use lib.Seq.{take_at}
 use borrow.Author.Tests.{le-leb}
 use Rattle.lists.specs.Lists.{gather, from}
-use Rattle.lists.proofs.Truth.{bcase, never, and_both}
+use Rattle.lists.proofs.Truth.{bcase}
 use Rattle.lists.proofs.Members.{In}
 use Rattle.lists.proofs.Pairs.{in_at}
 use Rattle.grid.specs.Limits.{side, flash_room_size, mark_room_size, flash_record, mark_record}
@@ -29,8 +29,7 @@ use Rattle.cover.specs.Cover.{Given, refused_at, short, covered, answered, cover
 use Rattle.cover.specs.Demand3.{Asked}
 use Rattle.cover.specs.Flashes.{flashes}
 use Rattle.cover.specs.Marks.{marks}
-use Rattle.cover.specs.Records.{flash_bytes, mark_bytes, flashes_written, marks_written, flash_in, flashes_in}
-use Rattle.cover.specs.declared.entry.Outcome.{Outcome}
+use Rattle.cover.specs.Records.{flash_bytes, mark_bytes, flashes_written, flash_in, flashes_in}
 use Rattle.cover.proofs.Checks.{answered-asked}
 use Rattle.cover.proofs.Refusals.{refuses, works}
 use Rattle.cover.proofs.Covering.{flashes-short, flash-copper, flash-fits}

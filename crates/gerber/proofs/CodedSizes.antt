@@ -1,18 +1,18 @@
 -- A table of sizes kept as numbers, read as sizes: how many, one of them, whether one is there, one more. The functions that read a file go by this.
-use mathlib.Core.Path.{◌≡◌, refl, sym, ap, ◌∙◌}
-use mathlib.Core.Bool.{Bool, true, false, ◌&&◌, ◌||◌}
-use mathlib.Core.List.{List, [], ◌∷◌, ◌++◌, map}
-use Prim.Native.Nat.{ℕ, zero, suc, ◌+◌, ◌-◌, ◌*◌, ◌/◌, ◌%◌, ◌≤◌, ◌<◌}
+use mathlib.Core.Path.{◌≡◌, refl, ap, ◌∙◌}
+use mathlib.Core.Bool.{true, false, ◌||◌}
+use mathlib.Core.List.{List, [], ◌∷◌}
+use Prim.Native.Nat.{ℕ, suc, ◌+◌, ◌*◌, ◌/◌, ◌%◌, ◌≤◌, ◌<◌}
 use native.Mathlib.Omega.{arith}
 use lib.Dec.{eqb}
-use lib.ListN.{length, take, get_or}
+use lib.ListN.{length, take}
 use lib.Seq.{length-take-le}
 use borrow.Author.Tests.{eq-eqb, eqb-true}
 use Rattle.lists.specs.Lists.{any}
 use Rattle.lists.proofs.Truth.{agree, and_left, and_right, and_both}
 use Rattle.grid.specs.Limits.{side, lines}
-use Rattle.gerber.specs.File.{Size, is_same_size}
-use Rattle.gerber.specs.Code.{size_code, coded_size, coded_sizes, place_in}
+use Rattle.gerber.specs.File.{is_same_size}
+use Rattle.gerber.specs.Code.{coded_size, coded_sizes, place_in}
 use Rattle.gerber.proofs.Codes.{place-any, place_none}
 
 length_coded : (ms : List ℕ) → length (coded_sizes ms) ≡ length ms

@@ -2,9 +2,8 @@
 -- The functions that look for what may stand at a spot use it.
 use mathlib.Core.Path.{◌≡◌, refl, sym, ap, ◌∙◌}
 use mathlib.Core.Bool.{Bool, true, false, ◌&&◌}
-use mathlib.Core.List.{List, [], ◌∷◌, ◌++◌}
-use mathlib.Core.Option.{none, some}
-use Prim.Native.Nat.{ℕ, suc, ◌+◌, ◌-◌, ◌*◌, ◌/◌, ◌^◌, ◌≤◌, ◌<◌}
+use mathlib.Core.List.{List, ◌++◌}
+use Prim.Native.Nat.{ℕ, ◌+◌, ◌-◌, ◌*◌, ◌/◌, ◌^◌, ◌≤◌, ◌<◌}
 use native.Mathlib.Omega.{arith}
 use native.Mathlib.Numerals.{add-one}
 use lib.ListN.{length, take, drop, length-append}
@@ -12,7 +11,7 @@ use lib.Seq.{take_at}
 use Rattle.lists.specs.Lists.{first, from}
 use Rattle.lists.proofs.Searches.{first-here, first_on, first-end}
 use Rattle.grid.specs.Limits.{side}
-use Rattle.grid.specs.Rooms.{written, Written}
+use Rattle.grid.specs.Rooms.{Written}
 use Rattle.grid.proofs.Writing.{from_start}
 use Rattle.text.specs.declared.read.Next.TheVariants.{Spot, Nothing}
 use Rattle.text.specs.Decimal.{digits, decimal}
@@ -20,7 +19,6 @@ use Rattle.text.specs.Words.{stands, found, word_at}
 use Rattle.text.proofs.Lengths.{digits_grow}
 use Rattle.text.proofs.Stands.{stands-append}
 use Rattle.text.proofs.Passes.{found-spot}
-use Rattle.gerber.specs.declared.found.Found.{Found}
 use Rattle.gerber.specs.declared.found.Found.TheVariants.{At, Nothing as NotFound}
 use Rattle.gerber.specs.File.{millimetres}
 use Rattle.gerber.specs.Parts.{found_of}

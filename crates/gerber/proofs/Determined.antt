@@ -1,11 +1,8 @@
 -- Every public function's contract determines its outcome: no second result fits, and nothing else behind a reference.
 -- Each `ensures` is an equation with a definition, or a record of such equations.
 use mathlib.Core.Path.{◌≡◌, refl, sym, ap, ◌∙◌}
-use mathlib.Core.List.{List}
 use Rattle.grid.proofs.Outcome.{Determined}
 use Rattle.cover.specs.Code.{rectangle_of}
-use Rattle.cover.specs.declared.flashes.Flash.{Flash}
-use Rattle.grid.specs.Squares.{Rectangle}
 use Rattle.grid.specs.Lines.{column, row}
 use Rattle.gerber.specs.Writing.{Given}
 use Rattle.gerber.specs.Reading as Reading

@@ -1,18 +1,15 @@
 -- Each flash's aperture and centre are its rectangle exactly, over the integers: twice the centre is the sum of the two edges, and the size is their difference.
 -- The pitch is even, so that half of it, taken twice, is the pitch. The apertures are the distinct sizes in order of first use.
-use mathlib.Core.Path.{◌≡◌, refl, sym, ap, ◌∙◌}
-use mathlib.Core.Bool.{Bool, true, false, ◌||◌, ◌&&◌}
-use mathlib.Core.List.{List, [], ◌∷◌, ◌++◌}
-use Prim.Native.Nat.{ℕ, zero, suc, ◌+◌, ◌-◌, ◌*◌, ◌/◌, ◌%◌, ◌≤◌, ◌<◌}
+use mathlib.Core.Path.{◌≡◌, sym, ap, ◌∙◌}
+use mathlib.Core.Bool.{true}
+use Prim.Native.Nat.{ℕ, suc, ◌+◌, ◌-◌, ◌*◌, ◌/◌, ◌%◌, ◌≤◌}
 use native.Mathlib.Omega.{arith}
-use native.Mathlib.Nat.{mul_comm, mul_assoc, add-mul}
+use native.Mathlib.Nat.{mul_comm, add-mul}
 use lib.Dec.{eqb}
 use lib.IntN.{ℤ, pos, ◌+ℤ◌, +ℤ_assoc, +ℤ_comm, pos-+ℤ-pos}
 use borrow.Author.Tests.{eqb-true}
-use Rattle.lists.specs.Lists.{any}
-use Rattle.lists.proofs.Truth.{bcase, and_left, and_right}
-use Rattle.grid.specs.Squares.{Rectangle}
-use Rattle.gerber.specs.File.{Size, size_of, pitch_in_range, pitch_fits, centre}
+use Rattle.lists.proofs.Truth.{and_right}
+use Rattle.gerber.specs.File.{pitch_in_range, pitch_fits, centre}
 
 -- the edge at grid line l, with the origin at o
 abbrev pub edge : ℕ → ℤ → ℕ → ℤ

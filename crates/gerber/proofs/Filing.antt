@@ -1,9 +1,9 @@
 -- The four ways out of `keekaboor_write_gerber`: a short room, the cover's refusal, a refusal of the file, and the file.
-use mathlib.Core.Path.{◌≡◌, refl, sym, ap, subst, ◌∙◌}
-use mathlib.Core.Bool.{Bool, true, false, ◌&&◌}
-use mathlib.Core.List.{List, []}
+use mathlib.Core.Path.{◌≡◌, sym, ap, ◌∙◌}
+use mathlib.Core.Bool.{false, ◌&&◌}
+use mathlib.Core.List.{List}
 use mathlib.Core.Logic.{inl}
-use Prim.Native.Nat.{ℕ, ◌*◌, ◌≤◌}
+use Prim.Native.Nat.{ℕ, ◌*◌}
 use lib.Dec.{leb}
 use lib.IntN.{ℤ}
 use lib.ListN.{length, take}
@@ -22,7 +22,7 @@ use Rattle.cover.specs.Flashes.{flashes}
 use Rattle.cover.specs.Records.{flashes_in}
 use Rattle.cover.proofs.Checks.{answered-asked}
 use Rattle.gerber.specs.File.{gerber_file}
-use Rattle.gerber.specs.Writing.{Given, with_length, no_file, filed, file_checks, or_file, write_gives}
+use Rattle.gerber.specs.Writing.{with_length, no_file, filed, file_checks, or_file, write_gives}
 use Rattle.gerber.proofs.Aside.{moved, Told}
 
 module _ (w h k : ℕ) (raster : List ℕ) (version pitch : ℕ) (x y : ℤ) (f m t : List ℕ) where

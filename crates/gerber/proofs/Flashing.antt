@@ -1,6 +1,6 @@
 -- The flashes' lines one after the other, by the numbers that are kept of sizes. `put_flashes` carries this from its start to its end.
-use mathlib.Core.Path.{◌≡◌, refl, sym, ap, ◌∙◌}
-use mathlib.Core.List.{List, [], ◌∷◌, ◌++◌}
+use mathlib.Core.Path.{◌≡◌, sym, ap, ◌∙◌}
+use mathlib.Core.List.{List, [], ◌++◌}
 use Prim.Native.Nat.{ℕ, ◌+◌, ◌≤◌, ◌<◌}
 use lib.IntN.{ℤ}
 use Rattle.grid.specs.Squares.{Rectangle}

@@ -1,25 +1,25 @@
 -- The longest file: a bound by a formula, under the room that is asked for.
 -- The first line is longest in version 1. Numbers of apertures have two digits, sizes at most two before the point, coordinates at most ten and a sign; there are at most as many apertures as flashes.
 -- `put_file`'s callers lend enough by this.
-use mathlib.Core.Path.{◌≡◌, refl, sym, ap, ◌∙◌}
-use mathlib.Core.Bool.{Bool, true, false, cond, ◌&&◌}
+use mathlib.Core.Path.{◌≡◌, refl}
+use mathlib.Core.Bool.{true}
 use mathlib.Core.List.{List, [], ◌∷◌, ◌++◌}
 use mathlib.Core.Option.{Option, none, some}
-use Prim.Native.Nat.{ℕ, zero, suc, ◌+◌, ◌-◌, ◌*◌, ◌/◌, ◌^◌, ◌≤◌, ◌<◌}
+use Prim.Native.Nat.{ℕ, suc, ◌+◌, ◌-◌, ◌*◌, ◌/◌, ◌^◌, ◌≤◌}
 use native.Mathlib.Nat.{mul-le-mul, le_refl, le_trans}
 use native.Mathlib.Omega.{arith}
-use lib.Dec.{ltb, eqb}
-use lib.IntN.{ℤ, pos, negsuc, nat_abs}
+use lib.Dec.{eqb}
+use lib.IntN.{ℤ, pos, negsuc}
 use lib.ListN.{length, length-append}
 use borrow.Author.Tests.{ltb-true}
-use Rattle.lists.specs.Lists.{any, all}
+use Rattle.lists.specs.Lists.{any}
 use Rattle.lists.proofs.Truth.{bcase, and_left, and_right}
 use Rattle.grid.specs.Limits.{side, file_room_size}
 use Rattle.grid.specs.Squares.{Rectangle}
 use Rattle.text.specs.Decimal.{digits, decimal}
 use Rattle.text.specs.Signed.{signed}
 use Rattle.text.proofs.Lengths.{digits_grow}
-use Rattle.gerber.specs.File.{Size, size_of, is_same_size, added, used, apertures, place_of, first_number, millimetres, aperture_line, aperture_lines, select_line, flash_line, centre, centre_line, selects, changes, flash_lines, first_line, head_lines, end_line, gerber_file, pitch_fits, coordinate_in_range, centre_fits, centres_fit}
+use Rattle.gerber.specs.File.{Size, size_of, is_same_size, added, used, apertures, place_of, first_number, millimetres, aperture_line, aperture_lines, centre, centre_line, selects, changes, flash_lines, first_line, head_lines, end_line, gerber_file, pitch_fits, coordinate_in_range, centre_fits, centres_fit}
 use Rattle.gerber.proofs.Pieces.{length-millimetres, length_aperture, length-select, length-flash}
 use Rattle.gerber.proofs.Signs.{pitch_most}
 use Rattle.gerber.proofs.Sizes.{Good, Goods, Drawns, apertures-good}

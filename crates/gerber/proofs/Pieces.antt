@@ -1,13 +1,12 @@
 -- How long each line is, by its pieces. The functions that write a line, and the longest file, go by this.
-use mathlib.Core.Path.{◌≡◌, refl, ap, ◌∙◌}
-use mathlib.Core.List.{List, ◌++◌, ◌∷◌, []}
+use mathlib.Core.Path.{◌≡◌}
 use Prim.Native.Nat.{ℕ, ◌+◌, ◌*◌, ◌/◌, ◌^◌}
 use native.Mathlib.Omega.{arith}
 use lib.IntN.{ℤ}
 use lib.ListN.{length, length-append}
 use Rattle.text.specs.Decimal.{decimal}
 use Rattle.text.specs.Signed.{signed}
-use Rattle.gerber.specs.File.{Size, first_number, last_digits, millimetres, aperture_line, select_line, flash_line}
+use Rattle.gerber.specs.File.{Size, first_number, millimetres, aperture_line, select_line, flash_line}
 use Rattle.gerber.proofs.Digits.{length_last}
 
 pub length-millimetres : (n : ℕ) → length (millimetres n) ≡ length (decimal (n / 10 ^ 6)) + 7

@@ -1,8 +1,7 @@
 -- The plus at pitch 1,000,000 and origin 0, 0, and at an origin left of and below panel zero: document 02's three lines, by evaluation.
 use mathlib.Core.Path.{◌≡◌, refl}
 use mathlib.Core.List.{List, [], ◌∷◌}
-use Prim.Native.Nat.{ℕ}
-use lib.IntN.{ℤ, pos, negsuc}
+use lib.IntN.{pos, negsuc}
 use Rattle.grid.specs.Squares.{Rectangle}
 use Rattle.text.specs.Decimal.{digits, decimal}
 use Rattle.text.specs.Signed.{signed}

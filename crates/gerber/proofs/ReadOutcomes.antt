@@ -1,6 +1,6 @@
 -- The whole outcome of reading, case by case; and what a body that was read says of the file. `read_file` and `keekaboor_read_gerber` go by this.
 use mathlib.Core.Path.{◌≡◌, refl, sym, ap, subst, ◌∙◌}
-use mathlib.Core.Bool.{Bool, true, false}
+use mathlib.Core.Bool.{true, false}
 use mathlib.Core.List.{List, [], ◌∷◌, ◌++◌}
 use Prim.Native.Nat.{ℕ, suc, ◌+◌, ◌*◌, ◌≤◌}
 use native.Mathlib.Omega.{arith}
@@ -18,9 +18,9 @@ use Rattle.text.specs.declared.read.Next.TheVariants.{Spot, Nothing}
 use Rattle.text.specs.Words.{stands, word_at}
 use Rattle.text.proofs.Passes.{found-spot}
 use Rattle.cover.specs.Records.{flash_bytes}
-use Rattle.gerber.specs.File.{Size, comment_line, attribute_line, format_checks}
+use Rattle.gerber.specs.File.{comment_line, attribute_line, format_checks}
 use Rattle.gerber.specs.Code.{coded_sizes}
-use Rattle.gerber.specs.Reading.{Read, not_ruled, flashes_read, Given, Apertures, past_apertures, first_of, heads, read_head, read_apertures, read_flashes, read_body, read_file, read_refused, all_read, line_check, read_checks, or_flashes, read_gives}
+use Rattle.gerber.specs.Reading.{Read, not_ruled, flashes_read, Apertures, past_apertures, first_of, read_head, read_apertures, read_flashes, read_body, read_file, read_refused, all_read, line_check, read_checks, or_flashes, read_gives}
 use Rattle.gerber.specs.Parts.{HeadRead, ReadInto}
 use Rattle.gerber.specs.declared.read.Head.TheVariants.{Past, Bad as BadHead}
 use Rattle.gerber.specs.declared.read.Body.{Body}

@@ -1,16 +1,16 @@
 -- One turn of reading our own file back: a flash with its select, a flash without, the end.
 -- Each line is the only one of its kind that stands there, and a line of another kind begins with another byte.
 use mathlib.Core.Path.{◌≡◌, refl, sym, ap, subst, ◌∙◌}
-use mathlib.Core.Bool.{Bool, true, false, not, cond, ◌&&◌, false≢true}
+use mathlib.Core.Bool.{Bool, true, false, cond, ◌&&◌, false≢true}
 use mathlib.Core.List.{List, [], ◌∷◌, ◌++◌, map}
 use mathlib.Core.Option.{none, some}
 use Prim.Native.Nat.{ℕ, suc, ◌+◌, ◌-◌, ◌≤◌, ◌<◌}
 use native.Mathlib.Omega.{arith}
-use lib.Dec.{leb, eqb}
+use lib.Dec.{eqb}
 use lib.IntN.{ℤ}
 use lib.ListN.{length, drop, length-drop}
 use borrow.Author.Tests.{lt-ltb, le-leb, eq-eqb}
-use Rattle.lists.specs.Lists.{first, gather, up_to}
+use Rattle.lists.specs.Lists.{gather, up_to}
 use Rattle.lists.proofs.Truth.{bcase, and_left, and_both}
 use Rattle.lists.proofs.Members.{In, first-only, none_first}
 use Rattle.lists.proofs.Ranges.{in_from, in_map, map_in, in_gather, gather_in}

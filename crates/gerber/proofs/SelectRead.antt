@@ -1,21 +1,20 @@
 -- A select read part by part: its letter, and then a number among those that may stand there. `read_select` goes by the two laws.
-use mathlib.Core.Path.{◌≡◌, refl, sym, ap, ◌∙◌}
-use mathlib.Core.Bool.{Bool, true, false, ◌&&◌, and_comm}
-use mathlib.Core.List.{List, [], ◌∷◌, ◌++◌}
-use mathlib.Core.Option.{none, some}
-use Prim.Native.Nat.{ℕ, suc, ◌+◌}
+use mathlib.Core.Path.{◌≡◌, ap, ◌∙◌}
+use mathlib.Core.Bool.{Bool, ◌&&◌, and_comm}
+use mathlib.Core.List.{List, ◌++◌}
+use Prim.Native.Nat.{ℕ, ◌+◌}
 use native.Mathlib.Omega.{arith}
 use lib.ListN.{length}
 use Rattle.lists.specs.Lists.{first, up_to}
 use Rattle.lists.proofs.Members.{none_first}
 use Rattle.text.specs.declared.read.Next.TheVariants.{Spot, Nothing}
-use Rattle.text.specs.Words.{stands, found, word_at}
+use Rattle.text.specs.Words.{stands, word_at}
 use Rattle.text.proofs.Stands.{stands-append}
 use Rattle.text.proofs.Passes.{found-spot}
 use Rattle.gerber.specs.File.{bytes, select_line}
 use Rattle.gerber.specs.Reading.{may_select, select_at}
-use Rattle.gerber.specs.Parts.{found_of, number_line, number_stands, found_select}
-use Rattle.gerber.specs.declared.found.Found.TheVariants.{At, Nothing as NotFound}
+use Rattle.gerber.specs.Parts.{found_of, number_line, found_select}
+use Rattle.gerber.specs.declared.found.Found.TheVariants.{Nothing as NotFound}
 use Rattle.gerber.specs.declared.turns.Reached.{Reached}
 use Rattle.gerber.proofs.Compared.{found_nothing}
 

@@ -1,6 +1,6 @@
 -- No call of the writer gives a file that is longer than the formula says, whatever its arguments and rooms.
 -- By the ways out of it: a refusal has no file, and what passed every check has the flashes of a cover, within the grid.
-use mathlib.Core.Path.{◌≡◌, refl, sym, ap, subst}
+use mathlib.Core.Path.{◌≡◌, refl, sym, subst}
 use mathlib.Core.List.{List}
 use mathlib.Core.Logic.{by_cases, inl}
 use Prim.Native.Nat.{ℕ, ◌≤◌}

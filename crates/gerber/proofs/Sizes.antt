@@ -1,14 +1,13 @@
 -- The numbers that the code keeps of sizes say the same as the sizes: the sizes used, the place of one, a change, and each size itself.
 -- A side is less than the number of lines, so two sizes with one number are one size. `put_file` passes from the numbers to the file by this.
 use mathlib.Core.Path.{◌≡◌, refl, sym, ap, ◌∙◌}
-use mathlib.Core.Bool.{Bool, true, false, cond, not, ◌||◌, ◌&&◌}
+use mathlib.Core.Bool.{true, cond, ◌||◌}
 use mathlib.Core.List.{List, [], ◌∷◌, ◌++◌, map}
 use mathlib.Core.Option.{Option, none, some}
-use Prim.Native.Nat.{ℕ, zero, suc, ◌+◌, ◌-◌, ◌*◌, ◌/◌, ◌%◌, ◌≤◌, ◌<◌}
+use Prim.Native.Nat.{ℕ, zero, suc, ◌+◌, ◌*◌, ◌/◌, ◌%◌, ◌≤◌}
 use native.Mathlib.Omega.{arith}
 use lib.Dec.{leb, eqb}
 use lib.IntN.{ℤ}
-use lib.ListN.{length}
 use borrow.Author.Tests.{eq-eqb, ne_eqb, eqb-true, le-leb}
 use Rattle.lists.specs.Lists.{any, from}
 use Rattle.lists.proofs.Truth.{bcase, agree, and_left, and_right, and_both}
@@ -16,11 +15,10 @@ use Rattle.lists.proofs.Ranges.{map-append}
 use Rattle.grid.specs.Limits.{side, lines}
 use Rattle.grid.specs.Squares.{Rectangle}
 use Rattle.text.specs.Line.{within}
-use Rattle.text.proofs.Lengths.{within_both}
 use Rattle.cover.specs.Code.{Drawn}
 use Rattle.cover.specs.Records.{flash_in, flashes_in}
-use Rattle.gerber.specs.File.{Size, size_of, is_same_size, added, used, apertures, place_of, changes, selects, select_line, centre_line, flash_lines}
-use Rattle.gerber.specs.Code.{size_code, coded_size, coded_sizes, code_before, sizes_of, place_in, codes_added, codes_used, largest_code, selects_code, code_lines, FlashesHeld}
+use Rattle.gerber.specs.File.{Size, size_of, is_same_size, added, used, apertures, place_of, selects, select_line, centre_line, flash_lines}
+use Rattle.gerber.specs.Code.{size_code, coded_sizes, code_before, sizes_of, place_in, codes_added, codes_used, largest_code, selects_code, code_lines, FlashesHeld}
 
 -- a size within the grid
 pub record Good (s : Size) : Type 0 where

@@ -1,9 +1,9 @@
 -- A turn of a file's flashes by what stands there: a select, the end, or neither. `take_turn` goes by the three laws.
-use mathlib.Core.Path.{◌≡◌, refl, sym, ap, ◌∙◌}
-use mathlib.Core.Bool.{Bool, true, false, cond, ◌&&◌}
+use mathlib.Core.Path.{◌≡◌, sym, ap, ◌∙◌}
+use mathlib.Core.Bool.{cond, ◌&&◌}
 use mathlib.Core.List.{List}
-use mathlib.Core.Option.{Option, none, some}
-use Prim.Native.Nat.{ℕ, ◌+◌, ◌^◌, ◌≤◌, ◌<◌}
+use mathlib.Core.Option.{none}
+use Prim.Native.Nat.{ℕ, ◌+◌, ◌^◌, ◌<◌}
 use native.Mathlib.Omega.{arith}
 use lib.IntN.{ℤ}
 use lib.ListN.{length}
@@ -12,7 +12,7 @@ use Rattle.text.specs.declared.read.Next.TheVariants.{Spot, Nothing}
 use Rattle.text.specs.Words.{stands, word_at}
 use Rattle.text.proofs.Passes.{found-spot}
 use Rattle.gerber.specs.File.{Size, select_line, end_line}
-use Rattle.gerber.specs.Reading.{may_select, select_at, selected, flash_at, flash_turn, end_turn, after_select, Turned, turned}
+use Rattle.gerber.specs.Reading.{may_select, select_at, selected, flash_at, flash_turn, end_turn, after_select, turned}
 use Rattle.gerber.specs.Parts.{found_of, Sound}
 use Rattle.gerber.specs.declared.found.Found.TheVariants.{At, Nothing as NotFound}
 use Rattle.gerber.specs.declared.turns.Reached.{Reached}

@@ -1,10 +1,9 @@
 -- What a turn that gives a flash says: the flash lies on the grid, and the next turn starts soundly. `read_flashes` goes by it.
 use mathlib.Core.Path.{◌≡◌, refl, sym, ap, subst, ◌∙◌}
-use mathlib.Core.Bool.{Bool, true, false, cond, ◌&&◌}
+use mathlib.Core.Bool.{◌&&◌}
 use mathlib.Core.List.{List, [], ◌∷◌, map}
-use mathlib.Core.Logic.{◌⊎◌}
 use mathlib.Core.Option.{Option, none, some}
-use Prim.Native.Nat.{ℕ, zero, suc, ◌+◌, ◌-◌, ◌/◌, ◌%◌, ◌^◌, ◌≤◌, ◌<◌}
+use Prim.Native.Nat.{ℕ, zero, suc, ◌+◌, ◌-◌, ◌%◌, ◌^◌, ◌≤◌, ◌<◌}
 use native.Mathlib.Omega.{arith}
 use lib.Dec.{ltb}
 use lib.IntN.{ℤ}
@@ -22,7 +21,7 @@ use Rattle.text.specs.Words.{stands}
 use Rattle.cover.specs.Code.{Drawn}
 use Rattle.gerber.specs.File.{Size, select_line, centre_line, centre_fits, end_line}
 use Rattle.gerber.specs.Code.{coded_size, coded_sizes}
-use Rattle.gerber.specs.Reading.{may_select, select_at, selected, placed, placements, size_at, placed_at, flash_at, flashed, Turned, flash, over, bad, flash_turn, end_turn, after_select, turned}
+use Rattle.gerber.specs.Reading.{may_select, select_at, selected, placed, placements, size_at, placed_at, flash_at, flashed, flash, flash_turn, end_turn, after_select, turned}
 use Rattle.gerber.specs.Parts.{SizesHeld, Sound}
 use Rattle.gerber.specs.declared.turns.Reached.{Reached}
 use Rattle.gerber.proofs.CodedSizes.{coded_length}

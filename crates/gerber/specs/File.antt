@@ -1,9 +1,9 @@
 -- The Gerber file of a list of flashes (document 02, R-2), byte by byte. Lengths are in nanometres: "format 4.6, so one unit is a nanometre".
 -- Throughout, pitch is the grid's pitch, and x and y are the origin: the bottom left corner of square (0, 0).
-use Rattle.std.specs.Prelude.{Bool, true, false, not, cond, ◌&&◌, ◌||◌, List, [], ◌∷◌, ◌++◌, ℕ, zero, suc, ◌+◌, ◌-◌, ◌*◌, ◌/◌, ◌%◌, ◌^◌, leb, ltb, eqb, ℤ, pos, nat_abs, ◌+ℤ◌}
+use Rattle.std.specs.Prelude.{Bool, true, not, cond, ◌&&◌, ◌||◌, List, [], ◌∷◌, ◌++◌, ℕ, zero, suc, ◌+◌, ◌-◌, ◌*◌, ◌/◌, ◌%◌, ◌^◌, leb, ltb, eqb, ℤ, pos, nat_abs, ◌+ℤ◌}
 use Rattle.std.proofs.Math.Option.{Option, none, some}
 use Prim.Native.String.{String, [] as empty, ◌∷◌ as ◌then◌}
-use Prim.Native.Char.{Char, code}
+use Prim.Native.Char.{code}
 use Rattle.lists.specs.Lists.{any, all}
 use Rattle.grid.specs.Answers.{check, version_unknown, pitch_out}
 use Rattle.grid.specs.Squares.{Rectangle}

@@ -1,5 +1,5 @@
 -- For inner functions alone: lines read part by part, and the numbers that the code keeps. Reading.antt names none of it.
-use Rattle.std.specs.Prelude.{◌≡◌, Bool, true, cond, not, ◌&&◌, List, [], ◌∷◌, ◌++◌, ℕ, suc, ◌+◌, ◌-◌, ◌*◌, ◌/◌, ◌%◌, ◌^◌, ◌≤◌, ◌<◌, ℤ, length, get_or, take}
+use Rattle.std.specs.Prelude.{◌≡◌, Bool, ◌&&◌, List, ◌++◌, ℕ, ◌+◌, ◌-◌, ◌*◌, ◌/◌, ◌%◌, ◌^◌, ◌≤◌, ◌<◌, ℤ, length, get_or, take}
 use Rattle.std.proofs.Math.Option.{Option, none, some}
 use Rattle.lists.specs.Lists.{first, gather, from, up_to}
 use Rattle.grid.specs.Limits.{side, lines, flash_record}
@@ -10,9 +10,9 @@ use Rattle.text.specs.Signed.{signed}
 use Rattle.text.specs.Words.{stands}
 use Rattle.cover.specs.Records.{flash_bytes}
 use Rattle.cover.specs.declared.flashes.Flash.{Flash}
-use Rattle.gerber.specs.File.{Size, bytes, first_number, millimetres, aperture_line, select_line, centre, coordinate_in_range}
+use Rattle.gerber.specs.File.{Size, bytes, first_number, millimetres, centre, coordinate_in_range}
 use Rattle.gerber.specs.Code.{size_code}
-use Rattle.gerber.specs.Reading.{Read, not_ruled, flashes_read, Turned, flash, over, bad, selected, may_select, heads, read_head}
+use Rattle.gerber.specs.Reading.{Read, not_ruled, flashes_read, Turned, flash, over, bad, may_select, heads, read_head}
 use Rattle.gerber.specs.declared.found.Found.{Found}
 use Rattle.gerber.specs.declared.found.Found.TheVariants.{At, Nothing}
 use Rattle.gerber.specs.declared.turns.Reached.{Reached}

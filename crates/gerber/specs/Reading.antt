@@ -1,7 +1,7 @@
 -- Reading a file back (document 02, R-2 and R-9): "Each line is judged by those before it". The line numbers, the flashes, and the whole outcome of a call.
 -- A line is as ruled where the text goes on with exactly the bytes of a line that may stand there, its line feed with them. So a line has one definition, in File.
 -- Throughout, pitch is the grid's pitch, x and y are the origin, text is the file, and f is what the lent flash room holds before the call.
-use Rattle.std.specs.Prelude.{◌≡◌, Bool, true, false, not, cond, ◌&&◌, List, [], ◌∷◌, ◌++◌, map, ℕ, zero, suc, ◌+◌, ◌-◌, max, leb, ltb, eqb, ℤ, length, get_or}
+use Rattle.std.specs.Prelude.{◌≡◌, Bool, not, cond, ◌&&◌, List, [], ◌∷◌, ◌++◌, map, ℕ, zero, suc, ◌+◌, ◌-◌, max, leb, ltb, eqb, ℤ, length, get_or}
 use Rattle.std.proofs.Math.Option.{Option, none, some}
 use Rattle.lists.specs.Lists.{any, first, gather, from, up_to}
 use Rattle.grid.specs.Limits.{side, flash_room_size}

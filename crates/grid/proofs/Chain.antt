@@ -10,7 +10,7 @@ use native.Mathlib.Decide.{ℕ_discrete}
 use native.Mathlib.Omega.{arith}
 use borrow.Author.Tests.{eq-eqb, ne_eqb}
 use Rattle.grid.specs.Squares.{Square}
-use Rattle.grid.specs.Answers.{answer, done, refused, check, check_at, or_else, first_refusal}
+use Rattle.grid.specs.Answers.{done, check, check_at, or_else, first_refusal}
 use Rattle.grid.specs.Code.{place_of, square_in}
 use Rattle.grid.specs.declared.answers.Answer.{Answer}
 use Rattle.grid.specs.declared.raster.Place.{Place}

@@ -1,6 +1,6 @@
 -- Rule 5's bracket where no dependent bracket ends before a line: a minimal one that ends there, or none where the line is past the last.
 -- No other minimal bracket has its right line. `bracket_from` uses it.
-use mathlib.Core.Path.{◌≡◌, sym, ap, ◌∙◌}
+use mathlib.Core.Path.{◌≡◌, ap, ◌∙◌}
 use mathlib.Core.Bool.{true}
 use mathlib.Core.List.{List}
 use mathlib.Core.Option.{none, some}

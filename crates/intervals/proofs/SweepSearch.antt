@@ -2,7 +2,7 @@
 -- It is what the nested search's inner loop finds at b (method/proofs/Search); the engine's search goes by it.
 use mathlib.Core.Path.{◌≡◌, refl, sym, ap, ◌∙◌}
 use mathlib.Core.List.{List}
-use mathlib.Core.Option.{Option, none, some, map}
+use mathlib.Core.Option.{none, some, map}
 use Prim.Native.Nat.{ℕ, zero, suc, ◌+◌, ◌-◌, ◌≤◌, ◌<◌}
 use native.Mathlib.Omega.{arith}
 use Rattle.lists.specs.Lists.{first, down}

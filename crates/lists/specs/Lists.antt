@@ -1,6 +1,6 @@
 -- Lists as the definitions of every crate use them: keep what passes a test, ask any or all, count, number from 0.
 -- Each runs, and each opens everywhere.
-use Rattle.std.specs.Prelude.{Bool, true, false, not, cond, ◌&&◌, ◌||◌, List, [], ◌∷◌, ◌++◌, map, ℕ, zero, suc, ◌+◌}
+use Rattle.std.specs.Prelude.{Bool, true, false, cond, ◌&&◌, ◌||◌, List, [], ◌∷◌, ◌++◌, ℕ, zero, suc, ◌+◌}
 use Rattle.std.proofs.Math.Option.{Option, none, some}
 
 module _ {ℓ} {A : Type ℓ} where

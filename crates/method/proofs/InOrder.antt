@@ -10,7 +10,7 @@ use Rattle.lists.proofs.Members.{In}
 use Rattle.lists.proofs.Ranges.{map_in}
 use Rattle.lists.proofs.Pairs.{Pairs}
 use Rattle.lists.proofs.Related.{pairs_keep, pairs_map, pairs_weaken, pairs_gather, from-rise}
-use Rattle.method.specs.Intervals.{Interval, span, beginning_at, every, select, member}
+use Rattle.method.specs.Intervals.{Interval, span, beginning_at, every, member}
 use Rattle.method.specs.Runs.{Listed}
 
 -- "by left line, then by right line"

@@ -1,6 +1,6 @@
 -- Intervals and sets of them (document 01, 'From copper to spans').
 -- A set over the lines 0 to n is the list of its intervals in order, by left line and then by right line, each once: equal sets are equal lists.
-use Rattle.std.specs.Prelude.{Bool, ◌&&◌, List, map, ℕ, zero, suc, ◌+◌, ◌-◌, min, max, leb, ltb, eqb}
+use Rattle.std.specs.Prelude.{Bool, ◌&&◌, List, map, ℕ, suc, ◌-◌, min, max, leb, ltb, eqb}
 use Rattle.lists.specs.Lists.{keep, any, gather, from, up_to}
 
 -- "An interval (L, R) runs from line L to line R, L < R, and holds columns L to R - 1."

@@ -1,5 +1,5 @@
 -- The reduction of a bracket (rule 4).
-use Rattle.std.specs.Prelude.{Bool, not, ◌&&◌, ◌||◌, List, [], ◌∷◌, ◌++◌, ℕ}
+use Rattle.std.specs.Prelude.{not, ◌&&◌, ◌||◌, List, [], ◌∷◌, ◌++◌, ℕ}
 use Rattle.lists.specs.Lists.{keep, any}
 use Rattle.method.specs.Intervals.{Interval, proper, inside, same, meet, select, member}
 

@@ -1,15 +1,15 @@
 -- On success the printed lines are those of the flashes and marks that document 01's rules give, in the rules' order, with their number, the copper number and the flashed area.
 -- The rooms hold those lists (demand 2), and the lines are read off the rooms, record by record.
-use mathlib.Core.Path.{◌≡◌, refl, sym, ap, ◌∙◌}
+use mathlib.Core.Path.{◌≡◌, refl, ap, ◌∙◌}
 use mathlib.Core.List.{List, [], ◌∷◌, ◌++◌, map}
 use Prim.Native.Nat.{ℕ, zero, suc, ◌+◌, ◌*◌, ◌≤◌, ◌<◌}
 use native.Mathlib.Omega.{arith}
 use lib.Dec.{ltb}
 use lib.ListN.{length, drop, length-take, length-drop}
-use Rattle.lists.specs.Lists.{gather, from, up_to}
+use Rattle.lists.specs.Lists.{gather, from}
 use Rattle.lists.proofs.Truth.{bcase}
 use Rattle.grid.specs.Limits.{side, flash_record, mark_record}
-use Rattle.grid.specs.Squares.{Area, Rectangle, Square, copper_number}
+use Rattle.grid.specs.Squares.{Area, copper_number}
 use Rattle.grid.specs.Raster.{area_of}
 use Rattle.cover.specs.Flashes.{flashes, flashed_area}
 use Rattle.cover.specs.Marks.{marks}

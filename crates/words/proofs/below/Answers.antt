@@ -1,6 +1,4 @@
 -- `below` meets its contract: the word under the bits before the end; at the end of a word, all of it.
-use Rattle.std.proofs.Common.{arith}
-use borrow.Author.Rules.{rules}
 use Rattle.words.specs.Words.{bits}
 use Rattle.words.proofs.Operations.{below-bits, whole-bits, one_positive}
 use Rattle.words.proofs.below.Goals as goal

@@ -1,5 +1,4 @@
 -- `both` meets its contract: bit by bit.
-use Rattle.std.proofs.Common.{arith}
 use Rattle.words.proofs.Digits.{on_and}
 use Rattle.words.proofs.both.Goals as goal
 

@@ -1,5 +1,4 @@
 -- `differing` meets its contract: bit by bit.
-use Rattle.std.proofs.Common.{arith}
 use Rattle.words.proofs.Digits.{on_xor}
 use Rattle.words.proofs.differing.Goals as goal
 

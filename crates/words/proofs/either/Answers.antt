@@ -1,5 +1,4 @@
 -- `either` meets its contract: bit by bit.
-use Rattle.std.proofs.Common.{arith}
 use Rattle.words.proofs.Digits.{on_or}
 use Rattle.words.proofs.either.Goals as goal
 

@@ -1,5 +1,4 @@
 -- `flipped` meets its contract: one bit at its place, against the word.
-use Rattle.std.proofs.Common.{arith}
 use borrow.Author.Rules.{rules}
 use Rattle.words.specs.Words.{bits}
 use Rattle.words.proofs.Operations.{flipped_bits}

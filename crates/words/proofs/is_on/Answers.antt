@@ -1,6 +1,4 @@
 -- `is_on` meets its contract: the lowest digit of what the shift leaves.
-use Rattle.std.proofs.Common.{arith}
-use borrow.Author.Rules.{rules}
 use Rattle.words.proofs.Operations.{is-on-bit}
 use Rattle.words.proofs.is_on.Goals as goal
 

@@ -1,5 +1,4 @@
 -- `last_off` meets its contract: a search in the word turned over.
-use Rattle.std.proofs.Common.{arith}
 use mathlib.Core.Path.{◌∙◌}
 use borrow.Author.Rules.{rules}
 use Rattle.words.specs.Words.{bits}

@@ -1,7 +1,5 @@
 -- `next_off` meets its contract: a search in the word turned over.
-use Rattle.std.proofs.Common.{arith}
 use mathlib.Core.Path.{◌∙◌}
-use borrow.Author.Rules.{rules}
 use Rattle.words.specs.Words.{bits}
 use Rattle.words.proofs.Operations.{turned_up}
 use Rattle.words.proofs.next_off.Goals as goal

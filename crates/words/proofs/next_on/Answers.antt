@@ -2,7 +2,6 @@
 use Rattle.std.proofs.Common.{arith}
 use Prim.Native.Nat.{◌/◌, ◌^◌, ◌<◌}
 use lib.Count.{trailing_le}
-use borrow.Author.Rules.{rules}
 use Rattle.words.specs.Words.{bits}
 use Rattle.words.proofs.Found.{next_out, next-none, next-some}
 use Rattle.words.proofs.next_on.Goals as goal

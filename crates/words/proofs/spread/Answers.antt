@@ -1,5 +1,4 @@
 -- `spread` meets its contract: the word, halved and doubled.
-use Rattle.std.proofs.Common.{arith}
 use Rattle.words.specs.Words.{bits}
 use Rattle.words.proofs.Operations.{spread_bits}
 use Rattle.words.proofs.spread.Goals as goal

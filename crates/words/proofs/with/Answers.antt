@@ -1,5 +1,4 @@
 -- `with` meets its contract: one bit at its place, joined to the word.
-use Rattle.std.proofs.Common.{arith}
 use borrow.Author.Rules.{rules}
 use Rattle.words.specs.Words.{bits}
 use Rattle.words.proofs.Operations.{with-bits}

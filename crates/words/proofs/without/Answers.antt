@@ -1,5 +1,4 @@
 -- `without` meets its contract: the word under all bits but one.
-use Rattle.std.proofs.Common.{arith}
 use borrow.Author.Rules.{rules}
 use Rattle.words.specs.Words.{bits}
 use Rattle.words.proofs.Operations.{without-bits}

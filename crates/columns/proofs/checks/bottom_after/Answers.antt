@@ -1,5 +1,4 @@
 -- `bottom_after` meets its contract: the two tests one after the other are the conjunction.
-use Rattle.std.proofs.Common.{arith}
 use borrow.Author.Tests.{eq-eqb, ne_eqb}
 use Rattle.columns.proofs.checks.bottom_after.Goals as goal
 

@@ -1,9 +1,7 @@
 -- `columns_checked` meets its contract: where every byte fits both checks pass, and else they are asked for their place; bottoms and ends are those of all rows.
-use Rattle.std.proofs.Common.{arith}
 use mathlib.Core.Path.{sym, ◌∙◌}
 use mathlib.Core.List.{List}
 use Prim.Native.Nat.{ℕ}
-use borrow.Author.Rules.{rules}
 use Rattle.grid.specs.Squares.{Area}
 use Rattle.columns.specs.Columns.{Filled, bottom_at, end_at}
 use Rattle.columns.specs.Code.{bottom_to, end_to}

@@ -1,5 +1,4 @@
 -- `end_after` meets its contract: the row after y fits a byte.
-use Rattle.std.proofs.Common.{arith}
 use borrow.Author.Tests.{eq-eqb, ne_eqb}
 use Rattle.columns.proofs.checks.end_after.Goals as goal
 

@@ -1,8 +1,6 @@
 -- `refusal` meets its contract: the two checks asked in turn are the chain.
-use Rattle.std.proofs.Common.{arith}
 use mathlib.Core.Path.{◌∙◌}
 use mathlib.Core.List.{[], ◌∷◌}
-use borrow.Author.Rules.{rules}
 use Rattle.grid.specs.Answers.{bad_byte, broken_column}
 use Rattle.grid.specs.Code.{area_in}
 use Rattle.grid.specs.Raster.{bad_square, broken_square}

@@ -1,9 +1,8 @@
 -- `take_row` meets its contract. The loop's invariant: the row's bytes before `c` are taken.
 use Rattle.std.proofs.Common.{arith}
-use mathlib.Core.Path.{◌≡◌, ap}
-use Prim.Native.Nat.{◌+◌, ◌-◌, ◌≤◌, ◌<◌}
+use mathlib.Core.Path.{ap}
+use Prim.Native.Nat.{◌+◌, ◌<◌}
 use lib.ListN.{length}
-use Rattle.columns.specs.Code.{RowTaken}
 use Rattle.columns.proofs.Taking.{row-none, row_next, row-all}
 use Rattle.columns.proofs.checks.take_row.Goals as goal
 

@@ -1,10 +1,9 @@
 -- `take_rows` meets its contract. The loop's invariant: the rows below `y` are taken.
 use Rattle.std.proofs.Common.{arith}
 use mathlib.Core.Path.{◌≡◌, refl}
-use Prim.Native.Nat.{◌+◌, ◌-◌, ◌*◌, ◌≤◌, ◌<◌}
+use Prim.Native.Nat.{◌+◌, ◌*◌, ◌≤◌}
 use lib.ListN.{length}
 use Rattle.grid.specs.Limits.{side}
-use Rattle.columns.specs.Code.{RowsTaken}
 use Rattle.columns.proofs.Taking.{row-all, rows_none, rows_next, rows_all, row_inside, row_of, row-long}
 use Rattle.columns.proofs.checks.take_rows.Goals as goal
 

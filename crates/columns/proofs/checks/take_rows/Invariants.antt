@@ -1,11 +1,6 @@
 -- `take_rows` meets its contract. The loop's invariant: the rows below `y` are taken.
-use Rattle.std.proofs.Common.{arith}
-use mathlib.Core.Path.{◌≡◌, refl}
-use Prim.Native.Nat.{◌+◌, ◌-◌, ◌*◌, ◌≤◌, ◌<◌}
-use lib.ListN.{length}
-use Rattle.grid.specs.Limits.{side}
+use Prim.Native.Nat.{◌-◌, ◌≤◌}
 use Rattle.columns.specs.Code.{RowsTaken}
-use Rattle.columns.proofs.Taking.{row-all, rows_none, rows_next, rows_all, row_inside, row_of, row-long}
 use Rattle.columns.proofs.checks.take_rows.Given as goal
 
 abbrev pub invariant-loop-y : goal.invariant-loop-y

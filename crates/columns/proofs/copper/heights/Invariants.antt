@@ -1,10 +1,6 @@
 -- `heights` meets its contract. The loop's invariant: `n` is the sum over the columns before `c`.
-use Rattle.std.proofs.Common.{arith}
-use mathlib.Core.Path.{◌≡◌, refl, ap, ◌∙◌}
-use mathlib.Core.List.{List}
-use lib.ListN.{get_or}
-use native.Mathlib.Numerals.{add-one}
-use Prim.Native.Nat.{ℕ, suc, ◌+◌, ◌-◌, ◌*◌, ◌≤◌, ◌<◌}
+use mathlib.Core.Path.{◌≡◌}
+use Prim.Native.Nat.{◌-◌, ◌*◌, ◌≤◌}
 use Rattle.columns.specs.Columns.{heights_to}
 use Rattle.columns.proofs.copper.heights.Given as goal
 

@@ -1,9 +1,7 @@
 -- `greatest` meets its contract. The loop's invariant: `most` is the greatest of the numbers before `c`.
-use Rattle.std.proofs.Common.{arith}
-use mathlib.Core.Path.{◌≡◌, ap, ◌∙◌}
+use mathlib.Core.Path.{◌≡◌}
 use Prim.Native.Nat.{◌-◌, ◌≤◌}
 use Rattle.columns.specs.Columns.{greatest_in}
-use Rattle.columns.proofs.Extremes.{greatest-none, greatest-next}
 use Rattle.columns.proofs.reach.greatest.Given as goal
 
 abbrev pub invariant-loop-c : goal.invariant-loop-c

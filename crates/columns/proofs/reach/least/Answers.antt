@@ -1,7 +1,7 @@
 -- `least` meets its contract. The loop's invariant: `few` is the least of the numbers before `c`.
 use Rattle.std.proofs.Common.{arith}
 use mathlib.Core.Path.{◌≡◌, ap, ◌∙◌}
-use Prim.Native.Nat.{◌-◌, ◌≤◌}
+use Prim.Native.Nat.{◌-◌}
 use Rattle.columns.specs.Columns.{least_in}
 use Rattle.columns.proofs.Extremes.{least-none, least-next}
 use Rattle.columns.proofs.reach.least.Goals as goal

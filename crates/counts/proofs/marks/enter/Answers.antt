@@ -2,7 +2,6 @@
 use Rattle.std.proofs.Common.{arith}
 use mathlib.Core.Path.{refl}
 use mathlib.Core.Bool.{true}
-use borrow.Author.Rules.{rules}
 use Rattle.grid.specs.Lines.{span_of}
 use Rattle.counts.proofs.TallyLaws.{one-short, begin_fits, end_fits, one-changed}
 use Rattle.counts.proofs.marks.enter.Goals as goal

@@ -1,16 +1,9 @@
 -- `enter_row` meets its contract. The loop's invariant: the interval that was found and those beyond it are still to come.
-use Rattle.std.proofs.Common.{arith}
-use mathlib.Core.Path.{◌≡◌, refl, ap, subst, subst⁻¹}
 use mathlib.Core.Bool.{true}
-use mathlib.Core.List.{[], ◌∷◌}
 use lib.ListN.{length}
-use Rattle.method.specs.Intervals.{span}
-use Rattle.grid.proofs.Edges.{number}
 use Rattle.intervals.specs.Table.{set_of}
-use Rattle.counts.specs.Rows.{row_beyond}
-use Rattle.counts.specs.Tally.{CanChange, Changed}
-use Rattle.counts.proofs.RowLaws.{row_at, at_none, row_from, row_step}
-use Rattle.counts.proofs.TallyLaws.{Going, going_start, going_over, next_can, going_next}
+use Rattle.counts.proofs.RowLaws.{row_at}
+use Rattle.counts.proofs.TallyLaws.{Going}
 use Rattle.counts.proofs.marks.enter_row.Given as goal
 
 abbrev pub invariant-loop-right : goal.invariant-loop-right

@@ -2,11 +2,10 @@
 use Rattle.std.proofs.Common.{arith}
 use mathlib.Core.Path.{subst}
 use mathlib.Core.Bool.{true}
-use Prim.Native.Nat.{◌-◌}
 use Rattle.intervals.specs.Table.{set_of}
 use Rattle.intervals.proofs.TableLaws.{set-listed}
 use Rattle.counts.specs.Rows.{row_beyond}
-use Rattle.counts.proofs.RowLaws.{rows_from, rows_start, rows_next, rows-over}
+use Rattle.counts.proofs.RowLaws.{rows_start, rows_next, rows-over}
 use Rattle.counts.proofs.TallyLaws.{Going, going_start, going_over, next_can, going_next}
 use Rattle.counts.proofs.marks.enter_set.Goals as goal
 

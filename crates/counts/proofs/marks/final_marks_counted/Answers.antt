@@ -1,7 +1,6 @@
 -- `final_marks_counted` meets its contract: a copy of the set, the brackets of its final set, and the marks of both. There are as many marks as intervals of the final set.
 use Rattle.std.proofs.Common.{arith}
 use mathlib.Core.Path.{refl, ap, ◌∙◌}
-use borrow.Author.Rules.{rules}
 use lib.ListN.{length}
 use Rattle.method.specs.Strike.{marked}
 use Rattle.method.proofs.Marks.{marked-length}

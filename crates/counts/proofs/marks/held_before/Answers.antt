@@ -1,7 +1,7 @@
 -- `held_before` meets its contract. The loop's invariant: what is held before line x.
 use Rattle.std.proofs.Common.{arith}
 use mathlib.Core.Path.{◌≡◌, sym, ap, ◌∙◌}
-use Prim.Native.Nat.{◌+◌, ◌-◌, ◌^◌, ◌≤◌, ◌<◌}
+use Prim.Native.Nat.{◌+◌, ◌-◌, ◌^◌, ◌<◌}
 use lib.ListN.{get_or}
 use Rattle.counts.specs.Tally.{held_to}
 use Rattle.counts.proofs.HeldLaws.{held_in, held_back}

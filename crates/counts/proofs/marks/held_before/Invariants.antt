@@ -1,10 +1,7 @@
 -- `held_before` meets its contract. The loop's invariant: what is held before line x.
-use Rattle.std.proofs.Common.{arith}
-use mathlib.Core.Path.{◌≡◌, sym, ap, ◌∙◌}
-use Prim.Native.Nat.{◌+◌, ◌-◌, ◌^◌, ◌≤◌, ◌<◌}
-use lib.ListN.{get_or}
+use mathlib.Core.Path.{◌≡◌}
+use Prim.Native.Nat.{◌≤◌}
 use Rattle.counts.specs.Tally.{held_to}
-use Rattle.counts.proofs.HeldLaws.{held_in, held_back}
 use Rattle.counts.proofs.marks.held_before.Given as goal
 
 abbrev pub invariant-loop-x : goal.invariant-loop-x

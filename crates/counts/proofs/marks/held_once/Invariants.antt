@@ -1,20 +1,12 @@
 -- `held_once` meets its contract. The loop's invariant: what is held before line c, and the leftmost column from `start` on that is held once is the leftmost from `c` on.
-use Rattle.std.proofs.Common.{arith}
-use mathlib.Core.Path.{◌≡◌, sym, ap, ◌∙◌}
+use mathlib.Core.Path.{◌≡◌}
 use mathlib.Core.Bool.{Bool}
 use mathlib.Core.List.{List}
-use Prim.Native.Nat.{ℕ, ◌+◌, ◌-◌, ◌^◌, ◌≤◌, ◌<◌}
-use borrow.Author.Rules.{rules}
-use borrow.Author.Tests.{eq-eqb, ne_eqb}
+use Prim.Native.Nat.{ℕ, ◌-◌}
 use lib.Dec.{eqb}
-use lib.ListN.{get_or}
 use Rattle.lists.specs.Lists.{first, from}
-use Rattle.lists.proofs.Passes.{up_from, up-here, up-on, up-end}
-use Rattle.grid.specs.Lines.{column}
-use Rattle.grid.specs.Code.{or_end}
-use Rattle.grid.proofs.Edges.{number}
+use Rattle.lists.proofs.Passes.{up_from}
 use Rattle.counts.specs.Tally.{held_to, is_held_in}
-use Rattle.counts.proofs.HeldLaws.{up-from, line-next, held_in}
 use Rattle.counts.proofs.marks.held_once.Given as goal
 
 abbrev pub once : List ℕ → List ℕ → ℕ → Bool

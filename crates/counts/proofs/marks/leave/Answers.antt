@@ -1,7 +1,6 @@
 -- `leave` meets its contract: a count of the one kind, and one of the other.
 use Rattle.std.proofs.Common.{arith}
 use mathlib.Core.Bool.{false}
-use borrow.Author.Rules.{rules}
 use Rattle.grid.specs.Lines.{span_of}
 use Rattle.counts.proofs.TallyLaws.{one-short, begin_fits, end_fits, one-changed}
 use Rattle.counts.proofs.marks.leave.Goals as goal

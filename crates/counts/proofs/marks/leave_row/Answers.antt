@@ -10,7 +10,7 @@ use Rattle.intervals.specs.Table.{set_of}
 use Rattle.counts.specs.Rows.{row_beyond}
 use Rattle.counts.specs.Tally.{CanChange, Changed}
 use Rattle.counts.proofs.RowLaws.{row_at, at_none, row_from, row_step}
-use Rattle.counts.proofs.TallyLaws.{Going, going_start, going_over, next_can, going_next}
+use Rattle.counts.proofs.TallyLaws.{going_start, going_over, next_can, going_next}
 use Rattle.counts.proofs.marks.leave_row.Goals as goal
 
 pub loop-right-init : goal.loop-right-init

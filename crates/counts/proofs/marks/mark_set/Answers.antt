@@ -1,7 +1,6 @@
 -- `mark_set` meets its contract: the counts are those of the set and of the bag, and the turns go from there.
 use Rattle.std.proofs.Common.{arith}
 use mathlib.Core.Path.{refl}
-use borrow.Author.Rules.{rules}
 use Rattle.grid.specs.Limits.{lines}
 use Rattle.counts.proofs.FinalMarks.{set_comes, some_come, all_tallied}
 use Rattle.counts.proofs.marks.mark_set.Goals as goal

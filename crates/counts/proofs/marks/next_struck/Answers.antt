@@ -1,10 +1,7 @@
 -- `next_struck` meets its contract. The loop's invariant: the pass so far.
 use Rattle.std.proofs.Common.{arith}
-use mathlib.Core.Path.{◌≡◌, refl, sym, ◌∙◌}
-use Prim.Native.Nat.{◌-◌}
-use borrow.Author.Rules.{rules}
+use mathlib.Core.Path.{refl, sym, ◌∙◌}
 use Rattle.grid.specs.Lines.{span_of}
-use Rattle.counts.specs.Spans.{Passed}
 use Rattle.counts.proofs.SpanLaws.{pass_hit, pass_miss, pass_over}
 use Rattle.counts.proofs.marks.next_struck.Goals as goal
 

@@ -1,8 +1,6 @@
 -- `note_mark` meets its contract: a turn of the marks' rule by counts.
-use Rattle.std.proofs.Common.{arith}
 use mathlib.Core.Path.{◌≡◌, ap, subst⁻¹}
 use mathlib.Core.Option.{some}
-use borrow.Author.Rules.{rules}
 use Rattle.method.specs.Strike.{least}
 use Rattle.grid.specs.Lines.{span_of}
 use Rattle.grid.proofs.Edges.{number}

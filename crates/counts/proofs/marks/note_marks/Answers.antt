@@ -2,16 +2,12 @@
 -- Each turn leaves fewer intervals.
 use Rattle.std.proofs.Common.{arith}
 use mathlib.Core.Path.{◌≡◌, refl, sym, ap, ◌∙◌}
-use Prim.Native.Nat.{◌+◌, ◌-◌}
+use Prim.Native.Nat.{◌-◌}
 use lib.Dec.{eqb}
-use lib.ListN.{length}
 use Rattle.lists.specs.Lists.{first, from}
-use Rattle.method.specs.Strike.{marked}
 use Rattle.grid.specs.Code.{or_end}
 use Rattle.grid.specs.declared.lines.Column.{Column}
-use Rattle.intervals.specs.Table.{set_of, NoneBegins}
-use Rattle.counts.specs.Tally.{is_held_in, Onward}
-use Rattle.counts.specs.Marks.{noted_for, Tallies}
+use Rattle.counts.specs.Tally.{is_held_in}
 use Rattle.counts.proofs.Turns.{counts_step, column-is, nothing_left, onward-start, marks-over, marks-few}
 use Rattle.counts.proofs.marks.note_marks.Goals as goal
 

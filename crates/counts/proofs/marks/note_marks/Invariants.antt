@@ -1,18 +1,12 @@
 -- `note_marks` meets its contract. The loop's invariant: what was to be noted is what is noted with what is left to note.
 -- Each turn leaves fewer intervals.
-use Rattle.std.proofs.Common.{arith}
-use mathlib.Core.Path.{◌≡◌, refl, sym, ap, ◌∙◌}
-use Prim.Native.Nat.{◌+◌, ◌-◌}
-use lib.Dec.{eqb}
+use mathlib.Core.Path.{◌≡◌}
+use Prim.Native.Nat.{◌+◌}
 use lib.ListN.{length}
-use Rattle.lists.specs.Lists.{first, from}
 use Rattle.method.specs.Strike.{marked}
-use Rattle.grid.specs.Code.{or_end}
-use Rattle.grid.specs.declared.lines.Column.{Column}
 use Rattle.intervals.specs.Table.{set_of, NoneBegins}
-use Rattle.counts.specs.Tally.{is_held_in, Onward}
+use Rattle.counts.specs.Tally.{Onward}
 use Rattle.counts.specs.Marks.{noted_for, Tallies}
-use Rattle.counts.proofs.Turns.{counts_step, column-is, nothing_left, onward-start, marks-over, marks-few}
 use Rattle.counts.proofs.marks.note_marks.Given as goal
 
 abbrev pub invariant-loop-last : goal.invariant-loop-last

@@ -1,17 +1,10 @@
 -- `strike_list` meets its contract. The loop's invariant: the pass so far, and the counts without what it has struck.
-use Rattle.std.proofs.Common.{arith}
-use mathlib.Core.Path.{◌≡◌, refl, sym, ap, subst, ◌∙◌}
 use mathlib.Core.Bool.{false}
-use mathlib.Core.List.{[], ◌∷◌}
 use Prim.Native.Nat.{◌-◌}
-use borrow.Author.Rules.{rules}
 use Rattle.lists.specs.Lists.{keep}
 use Rattle.method.specs.Intervals.{holds}
-use Rattle.grid.proofs.Edges.{number}
-use Rattle.counts.specs.Spans.{spans_in, Passed, Told}
-use Rattle.counts.specs.declared.marks.Next.TheVariants.{Over, Struck}
-use Rattle.counts.proofs.SpanLaws.{pass_then, over-all, none_struck}
-use Rattle.counts.proofs.TallyLaws.{Going, going_start, going_over, next_can, going_next, Seeking, seeking_start, seeking_over, seeking_next}
+use Rattle.counts.specs.Spans.{spans_in, Passed}
+use Rattle.counts.proofs.TallyLaws.{Going, Seeking}
 use Rattle.counts.proofs.marks.strike_list.Given as goal
 
 abbrev pub invariant-loop-count : goal.invariant-loop-count

@@ -2,8 +2,6 @@
 use Rattle.std.proofs.Common.{arith}
 use mathlib.Core.Path.{◌≡◌, ap, subst, subst⁻¹}
 use mathlib.Core.Bool.{false}
-use Prim.Native.Nat.{◌-◌}
-use borrow.Author.Rules.{rules}
 use Rattle.lists.specs.Lists.{keep}
 use Rattle.method.specs.Intervals.{holds}
 use Rattle.method.specs.Strike.{strike}

@@ -1,16 +1,6 @@
 -- `strike_set` meets its contract. The loop's invariant: the rows before line l are struck, and the others are still to be.
-use Rattle.std.proofs.Common.{arith}
-use mathlib.Core.Path.{◌≡◌, ap, subst, subst⁻¹}
-use mathlib.Core.Bool.{false}
 use Prim.Native.Nat.{◌-◌}
-use borrow.Author.Rules.{rules}
-use Rattle.lists.specs.Lists.{keep}
-use Rattle.method.specs.Intervals.{holds}
-use Rattle.method.specs.Strike.{strike}
-use Rattle.grid.proofs.Edges.{number}
-use Rattle.intervals.specs.Table.{set_of, table_of}
-use Rattle.counts.specs.Tally.{Changed}
-use Rattle.counts.proofs.StrikeLaws.{Striking, striking_start, row_can, striking_next, striking_over}
+use Rattle.counts.proofs.StrikeLaws.{Striking}
 use Rattle.counts.proofs.marks.strike_set.Given as goal
 
 abbrev pub invariant-loop-l : goal.invariant-loop-l

@@ -1,7 +1,5 @@
 -- `final_marks_plain` meets its contract: the final set and the marks are those of one and the same set, of which a copy is struck.
-use Rattle.std.proofs.Common.{arith}
 use mathlib.Core.Path.{◌≡◌, ap, ◌∙◌}
-use borrow.Author.Rules.{rules}
 use lib.ListN.{length}
 use Rattle.method.specs.Final.{final}
 use Rattle.method.specs.Strike.{marked}

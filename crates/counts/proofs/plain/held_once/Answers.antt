@@ -1,19 +1,12 @@
 -- `held_once` meets its contract. The loop's invariant: the leftmost column that is held once is the leftmost from `c` on.
 use Rattle.std.proofs.Common.{arith}
-use mathlib.Core.Path.{◌≡◌, sym, ap, ◌∙◌}
-use mathlib.Core.Bool.{Bool}
-use mathlib.Core.List.{List}
-use Prim.Native.Nat.{ℕ, ◌-◌}
-use borrow.Author.Rules.{rules}
+use mathlib.Core.Path.{sym, ap, ◌∙◌}
 use borrow.Author.Tests.{eq-eqb, ne_eqb}
 use lib.Dec.{eqb}
-use Rattle.lists.specs.Lists.{count}
-use Rattle.method.specs.Intervals.{holds}
 use Rattle.method.specs.Strike.{held_once}
 use Rattle.grid.proofs.Edges.{number}
-use Rattle.intervals.specs.Table.{set_of}
 use Rattle.counts.specs.Marks.{once_of}
-use Rattle.lists.proofs.Passes.{up_from, up-all, up-here, up-on, up-end}
+use Rattle.lists.proofs.Passes.{up-all, up-here, up-on, up-end}
 use Rattle.counts.proofs.plain.held_once.Invariants.{once}
 use Rattle.counts.proofs.plain.held_once.Goals as goal
 

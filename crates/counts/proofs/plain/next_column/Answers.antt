@@ -1,9 +1,6 @@
 -- `next_column` meets its contract: the column of the final set.
-use Rattle.std.proofs.Common.{arith}
 use mathlib.Core.Path.{ap, ◌∙◌}
-use borrow.Author.Rules.{rules}
 use Rattle.method.specs.Strike.{held_once}
-use Rattle.intervals.specs.Table.{set_of}
 use Rattle.counts.specs.Marks.{once_of}
 use Rattle.counts.proofs.PlainTurns.{final-left}
 use Rattle.counts.proofs.plain.next_column.Goals as goal

@@ -1,8 +1,6 @@
 -- `note_mark` meets its contract: a turn of the marks' rule.
-use Rattle.std.proofs.Common.{arith}
 use mathlib.Core.Path.{◌≡◌}
 use mathlib.Core.Option.{some}
-use borrow.Author.Rules.{rules}
 use Rattle.method.specs.Final.{final}
 use Rattle.method.specs.Strike.{held_once, least}
 use Rattle.grid.specs.Lines.{span_of}

@@ -1,11 +1,7 @@
 -- `note_marks` meets its contract. The loop's invariant: what was to be noted is what is noted with what is left to note.
 -- Each turn that notes a mark leaves fewer intervals.
 use Rattle.std.proofs.Common.{arith}
-use mathlib.Core.Path.{◌≡◌, refl, sym, ◌∙◌}
-use lib.ListN.{length}
-use Rattle.method.specs.Strike.{marked}
-use Rattle.intervals.specs.Table.{set_of, Tabled}
-use Rattle.counts.specs.Marks.{noted_for}
+use mathlib.Core.Path.{refl, sym, ◌∙◌}
 use Rattle.counts.proofs.PlainTurns.{noted-over}
 use Rattle.counts.proofs.plain.note_marks.Goals as goal
 

@@ -1,12 +1,10 @@
 -- `note_marks` meets its contract. The loop's invariant: what was to be noted is what is noted with what is left to note.
 -- Each turn that notes a mark leaves fewer intervals.
-use Rattle.std.proofs.Common.{arith}
-use mathlib.Core.Path.{◌≡◌, refl, sym, ◌∙◌}
+use mathlib.Core.Path.{◌≡◌}
 use lib.ListN.{length}
 use Rattle.method.specs.Strike.{marked}
 use Rattle.intervals.specs.Table.{set_of, Tabled}
 use Rattle.counts.specs.Marks.{noted_for}
-use Rattle.counts.proofs.PlainTurns.{noted-over}
 use Rattle.counts.proofs.plain.note_marks.Given as goal
 
 abbrev pub invariant-loop-last : goal.invariant-loop-last

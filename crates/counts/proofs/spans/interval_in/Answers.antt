@@ -2,7 +2,6 @@
 use Rattle.std.proofs.Common.{arith}
 use mathlib.Core.Path.{refl}
 use Prim.Native.Nat.{◌+◌, ◌*◌}
-use borrow.Author.Rules.{rules}
 use Rattle.grid.specs.Limits.{bracket_record}
 use Rattle.counts.proofs.spans.interval_in.Goals as goal
 

@@ -1,6 +1,5 @@
 -- `cover_area` meets its contract: the pass takes bottoms and ends, and they are the columns'.
 use Rattle.std.proofs.Common.{arith}
-use borrow.Author.Rules.{rules}
 use Rattle.grid.specs.Limits.{side}
 use Rattle.columns.proofs.Filling.{zeros-bare, filled-reached}
 use Rattle.cover.proofs.entry.cover_area.Goals as goal

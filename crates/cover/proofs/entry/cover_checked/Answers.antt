@@ -1,7 +1,6 @@
 -- `cover_checked` meets its contract: the checks in document 01's order, then the work.
 use Rattle.std.proofs.Common.{arith}
 use mathlib.Core.Path.{sym, ap, ◌∙◌}
-use borrow.Author.Rules.{rules}
 use lib.ListN.{length}
 use Rattle.grid.specs.Limits.{side}
 use Rattle.grid.specs.Code.{Sized}

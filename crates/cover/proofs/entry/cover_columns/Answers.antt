@@ -3,7 +3,6 @@ use Rattle.std.proofs.Common.{arith}
 use mathlib.Core.Path.{◌≡◌, sym, ap, subst, ◌∙◌}
 use mathlib.Core.List.{map}
 use Prim.Native.Nat.{ℕ, ◌+◌, ◌*◌, ◌≤◌}
-use borrow.Author.Rules.{rules}
 use lib.ListN.{length, take, replicate, length-replicate}
 use Rattle.method.specs.Final.{final}
 use Rattle.method.specs.Strike.{marked}

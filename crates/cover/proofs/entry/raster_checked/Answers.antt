@@ -1,6 +1,5 @@
 -- `raster_checked` meets its contract: it is the answer of the pass that takes bottoms and ends.
 use Rattle.std.proofs.Common.{arith}
-use borrow.Author.Rules.{rules}
 use Rattle.grid.specs.Limits.{side}
 use Rattle.columns.proofs.Filling.{zeros-bare}
 use Rattle.cover.proofs.entry.raster_checked.Goals as goal

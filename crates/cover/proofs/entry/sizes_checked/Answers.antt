@@ -1,9 +1,7 @@
 -- `sizes_checked` meets its contract: the checks asked in turn are the chain.
-use Rattle.std.proofs.Common.{arith}
 use mathlib.Core.Path.{refl, ap, ◌∙◌}
 use mathlib.Core.Bool.{Bool}
 use mathlib.Core.List.{[], ◌∷◌}
-use borrow.Author.Rules.{rules}
 use lib.Dec.{leb}
 use lib.ListN.{length}
 use Rattle.grid.specs.Limits.{flash_room_size, mark_room_size, allowance_limit}

@@ -1,7 +1,6 @@
 -- `start_area` meets its contract: the starting set, and of it the final set and the marks.
 use Rattle.std.proofs.Common.{arith}
-use mathlib.Core.Path.{◌≡◌, ap, ◌∙◌}
-use borrow.Author.Rules.{rules}
+use mathlib.Core.Path.{ap, ◌∙◌}
 use lib.ListN.{length}
 use Rattle.method.specs.Final.{final}
 use Rattle.method.specs.Strike.{marked}

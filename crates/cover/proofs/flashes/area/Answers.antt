@@ -2,7 +2,6 @@
 use Rattle.std.proofs.Common.{arith}
 use Prim.Native.Nat.{◌+◌, ◌-◌, ◌≤◌}
 use native.Mathlib.Nat.{mul-le-mul}
-use borrow.Author.Rules.{rules}
 use Rattle.grid.specs.Limits.{side}
 use Rattle.cover.proofs.flashes.area.Goals as goal
 

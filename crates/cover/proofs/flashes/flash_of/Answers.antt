@@ -1,7 +1,6 @@
 -- `flash_of` meets its contract: the columns and the rows of one and the same interval.
 use Rattle.std.proofs.Common.{arith}
 use mathlib.Core.Path.{sym, ap}
-use borrow.Author.Rules.{rules}
 use Rattle.grid.specs.declared.lines.Column.{Column}
 use Rattle.grid.specs.declared.lines.Row.{Row}
 use Rattle.cover.proofs.Variants.{run-told, none_told}

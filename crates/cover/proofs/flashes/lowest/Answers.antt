@@ -2,7 +2,6 @@
 use Rattle.std.proofs.Common.{arith}
 use mathlib.Core.Path.{ap, ◌∙◌}
 use Prim.Native.Nat.{◌-◌}
-use borrow.Author.Rules.{rules}
 use Rattle.grid.specs.Lines.{row}
 use Rattle.grid.proofs.Edges.{number}
 use Rattle.columns.specs.Columns.{greatest_in}

@@ -1,7 +1,6 @@
 -- `write_flash` meets its contract: one record more, its number and its area added.
 use Rattle.std.proofs.Common.{arith}
 use mathlib.Core.Path.{sym, subst}
-use borrow.Author.Rules.{rules}
 use Rattle.grid.specs.Lines.{span_of}
 use Rattle.cover.specs.Code.{rectangle_of, Drawn}
 use Rattle.cover.proofs.FlashBounds.{stands-drawn, area_small}

@@ -2,7 +2,7 @@
 use Rattle.std.proofs.Common.{arith}
 use mathlib.Core.Path.{refl, ap, subst}
 use mathlib.Core.List.{List, map}
-use Prim.Native.Nat.{◌+◌, ◌-◌}
+use Prim.Native.Nat.{◌+◌}
 use lib.ListN.{length-map}
 use Rattle.method.specs.Intervals.{Interval as Span}
 use Rattle.grid.specs.Squares.{Rectangle}

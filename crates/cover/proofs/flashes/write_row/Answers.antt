@@ -1,11 +1,10 @@
 -- `write_row` meets its contract. The loop's invariant: the intervals from the next end on are still to be written.
 use Rattle.std.proofs.Common.{arith}
-use mathlib.Core.Path.{◌≡◌, refl, ap, subst}
-use mathlib.Core.Bool.{true}
+use mathlib.Core.Path.{refl, ap, subst}
 use mathlib.Core.List.{List, [], ◌∷◌, map}
 use Prim.Native.Nat.{◌<◌}
 use lib.ListN.{length}
-use Rattle.method.specs.Intervals.{Interval as Span, span, member}
+use Rattle.method.specs.Intervals.{Interval as Span, span}
 use Rattle.grid.specs.Squares.{Rectangle}
 use Rattle.grid.proofs.Edges.{number}
 use Rattle.intervals.specs.Table.{set_of, next_end}

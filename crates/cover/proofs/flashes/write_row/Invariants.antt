@@ -1,17 +1,13 @@
 -- `write_row` meets its contract. The loop's invariant: the intervals from the next end on are still to be written.
-use Rattle.std.proofs.Common.{arith}
-use mathlib.Core.Path.{◌≡◌, refl, ap, subst}
+use mathlib.Core.Path.{◌≡◌}
 use mathlib.Core.Bool.{true}
-use mathlib.Core.List.{List, [], ◌∷◌, map}
+use mathlib.Core.List.{map}
 use Prim.Native.Nat.{◌<◌}
 use lib.ListN.{length}
-use Rattle.method.specs.Intervals.{Interval as Span, span, member}
-use Rattle.grid.specs.Squares.{Rectangle}
-use Rattle.grid.proofs.Edges.{number}
-use Rattle.intervals.specs.Table.{set_of, next_end}
+use Rattle.method.specs.Intervals.{span, member}
+use Rattle.intervals.specs.Table.{set_of}
 use Rattle.cover.specs.Code.{flash_between, from_line}
-use Rattle.cover.proofs.FlashBounds.{stands-drawn}
-use Rattle.cover.proofs.FlashesByRow.{rest_at, row-start, row_next, row-over, next-member, one-drawn, Going, going_start, going_over, going_ready, going_next}
+use Rattle.cover.proofs.FlashesByRow.{rest_at, Going}
 use Rattle.cover.proofs.flashes.write_row.Given as goal
 
 abbrev pub invariant-loop-right : goal.invariant-loop-right

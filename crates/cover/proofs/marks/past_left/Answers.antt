@@ -1,7 +1,6 @@
 -- `past_left` meets its contract: the column before the line, where there is one.
 use Rattle.std.proofs.Common.{arith}
 use mathlib.Core.Path.{◌∙◌, ap}
-use borrow.Author.Rules.{rules}
 use Rattle.grid.proofs.Edges.{number}
 use Rattle.cover.proofs.MarkRows.{left-none, left_one}
 use Rattle.cover.proofs.marks.past_left.Goals as goal

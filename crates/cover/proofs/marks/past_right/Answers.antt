@@ -1,7 +1,6 @@
 -- `past_right` meets its contract: the column after the line, where there is one.
 use Rattle.std.proofs.Common.{arith}
 use mathlib.Core.Path.{◌∙◌, ap}
-use borrow.Author.Rules.{rules}
 use Rattle.grid.proofs.Edges.{number}
 use Rattle.cover.proofs.MarkRows.{right_none, right_one}
 use Rattle.cover.proofs.marks.past_right.Goals as goal

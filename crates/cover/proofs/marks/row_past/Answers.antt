@@ -1,7 +1,6 @@
 -- `row_past` meets its contract: below the column's bottom the row itself, from there on the greater of row and end.
 use Rattle.std.proofs.Common.{arith}
 use mathlib.Core.Path.{◌∙◌}
-use borrow.Author.Rules.{rules}
 use lib.ListN.{get_or}
 use Rattle.cover.proofs.MarkRows.{past-below, past-from}
 use Rattle.cover.proofs.marks.row_past.Goals as goal

@@ -3,7 +3,6 @@ use Rattle.std.proofs.Common.{arith}
 use mathlib.Core.Path.{◌≡◌, ap, ◌∙◌}
 use mathlib.Core.List.{[], ◌∷◌}
 use Prim.Native.Nat.{ℕ, ◌-◌, ◌*◌}
-use borrow.Author.Rules.{rules}
 use Rattle.method.specs.Intervals.{Interval as Span}
 use Rattle.grid.specs.Limits.{mark_record}
 use Rattle.grid.specs.Rooms.{written}

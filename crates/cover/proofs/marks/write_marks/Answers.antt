@@ -2,11 +2,10 @@
 use Rattle.std.proofs.Common.{arith}
 use mathlib.Core.Path.{◌≡◌, refl, sym, ap}
 use Prim.Native.Nat.{ℕ, ◌+◌, ◌-◌, ◌≤◌}
-use borrow.Author.Rules.{rules}
 use lib.ListN.{length, take, length-append}
 use Rattle.method.specs.Intervals.{Interval as Span}
 use Rattle.grid.proofs.Edges.{number}
-use Rattle.cover.specs.Code.{row_between, marked_in, marks_noted, MarksAdded}
+use Rattle.cover.specs.Code.{row_between, marked_in, marks_noted}
 use Rattle.cover.proofs.RecordsBehind.{none-marked, as_marked, more-marked, all-marked}
 use Rattle.cover.proofs.NotedMarks.{noted-none, taken_next, taken-few}
 use Rattle.cover.proofs.marks.write_marks.Goals as goal

@@ -1,14 +1,7 @@
 -- `write_marks` meets its contract. The loop's invariant: the first marks of the columns before c are added to none.
-use Rattle.std.proofs.Common.{arith}
-use mathlib.Core.Path.{◌≡◌, refl, sym, ap}
-use Prim.Native.Nat.{ℕ, ◌+◌, ◌-◌, ◌≤◌}
-use borrow.Author.Rules.{rules}
-use lib.ListN.{length, take, length-append}
-use Rattle.method.specs.Intervals.{Interval as Span}
-use Rattle.grid.proofs.Edges.{number}
-use Rattle.cover.specs.Code.{row_between, marked_in, marks_noted, MarksAdded}
-use Rattle.cover.proofs.RecordsBehind.{none-marked, as_marked, more-marked, all-marked}
-use Rattle.cover.proofs.NotedMarks.{noted-none, taken_next, taken-few}
+use Prim.Native.Nat.{◌-◌, ◌≤◌}
+use lib.ListN.{take}
+use Rattle.cover.specs.Code.{row_between, marks_noted, MarksAdded}
 use Rattle.cover.proofs.marks.write_marks.Given as goal
 
 abbrev pub invariant-loop-c : goal.invariant-loop-c

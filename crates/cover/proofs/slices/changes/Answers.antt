@@ -1,8 +1,7 @@
 -- `changes` meets its contract. The loop's invariant: the rows have what changes in the columns before `c`.
 use Rattle.std.proofs.Common.{arith}
 use mathlib.Core.Path.{◌≡◌, refl, sym, subst, ◌∙◌}
-use Prim.Native.Nat.{◌-◌, ◌≤◌, ◌<◌}
-use lib.ListN.{length}
+use Prim.Native.Nat.{◌<◌}
 use Rattle.cover.specs.Code.{Rowed, changing}
 use Rattle.cover.proofs.RowChanges.{none-changed, next-changed}
 use Rattle.cover.proofs.slices.changes.Goals as goal

@@ -1,10 +1,8 @@
 -- `changes` meets its contract. The loop's invariant: the rows have what changes in the columns before `c`.
-use Rattle.std.proofs.Common.{arith}
-use mathlib.Core.Path.{◌≡◌, refl, sym, subst, ◌∙◌}
-use Prim.Native.Nat.{◌-◌, ◌≤◌, ◌<◌}
+use mathlib.Core.Path.{◌≡◌}
+use Prim.Native.Nat.{◌-◌, ◌≤◌}
 use lib.ListN.{length}
 use Rattle.cover.specs.Code.{Rowed, changing}
-use Rattle.cover.proofs.RowChanges.{none-changed, next-changed}
 use Rattle.cover.proofs.slices.changes.Given as goal
 
 abbrev pub invariant-loop-c : goal.invariant-loop-c

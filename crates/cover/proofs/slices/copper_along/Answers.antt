@@ -1,9 +1,6 @@
 -- `copper_along` meets its contract. The loop's invariant: the row is copper along the interval if it is from column `c` on.
 use Rattle.std.proofs.Common.{arith}
 use mathlib.Core.Path.{◌≡◌, sym, ap, ◌∙◌}
-use Prim.Native.Nat.{◌-◌}
-use borrow.Author.Rules.{rules}
-use borrow.Author.Tests.{not-true, not-false}
 use Rattle.method.specs.Intervals.{span}
 use Rattle.grid.specs.Lines.{span_of}
 use Rattle.grid.proofs.Edges.{number}

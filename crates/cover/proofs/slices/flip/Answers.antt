@@ -1,6 +1,4 @@
 -- `flip` meets its contract: the row's word with the column flipped is put back.
-use Rattle.std.proofs.Common.{arith}
-use borrow.Author.Rules.{rules}
 use Rattle.cover.proofs.RowChanges.{flip_rows}
 use Rattle.cover.proofs.slices.flip.Goals as goal
 

@@ -2,9 +2,8 @@
 -- and no slice of the row is cut there.
 use Rattle.std.proofs.Common.{arith}
 use mathlib.Core.Path.{◌≡◌, sym, ap, ap₂, ◌∙◌}
-use mathlib.Core.Bool.{true, false, ◌&&◌}
-use Prim.Native.Nat.{ℕ, ◌-◌, ◌≤◌, ◌<◌}
-use borrow.Author.Rules.{rules}
+use mathlib.Core.Bool.{true, ◌&&◌}
+use Prim.Native.Nat.{ℕ, ◌≤◌, ◌<◌}
 use lib.Dec.{ltb}
 use Rattle.lists.proofs.Truth.{and_right}
 use Rattle.method.specs.Intervals.{span}

@@ -1,19 +1,11 @@
 -- `put_changed` meets its contract. The loop's invariant: the table holds what it held and the row's touched slices that begin before `at`,
 -- and no slice of the row is cut there.
-use Rattle.std.proofs.Common.{arith}
-use mathlib.Core.Path.{◌≡◌, sym, ap, ap₂, ◌∙◌}
-use mathlib.Core.Bool.{true, false, ◌&&◌}
-use Prim.Native.Nat.{ℕ, ◌-◌, ◌≤◌, ◌<◌}
-use borrow.Author.Rules.{rules}
-use lib.Dec.{ltb}
-use Rattle.lists.proofs.Truth.{and_right}
-use Rattle.method.specs.Intervals.{span}
-use Rattle.grid.proofs.Edges.{number}
-use Rattle.words.specs.Words.{bits, on}
-use Rattle.intervals.specs.Table.{set_of, table_of, with}
-use Rattle.intervals.proofs.TableLaws.{set-listed}
-use Rattle.cover.specs.Code.{beside}
-use Rattle.cover.proofs.ChangedRow.{changed_to, changed-none, changed-all, none_left, next-on, next_edge, put_next, changed_slices, changed-tabled, put_table}
+use mathlib.Core.Path.{◌≡◌}
+use mathlib.Core.Bool.{false}
+use Prim.Native.Nat.{◌-◌, ◌≤◌, ◌<◌}
+use Rattle.words.specs.Words.{on}
+use Rattle.intervals.specs.Table.{set_of, table_of}
+use Rattle.cover.proofs.ChangedRow.{changed_to}
 use Rattle.cover.proofs.slices.put_changed.Given as goal
 
 abbrev pub invariant-loop-last : goal.invariant-loop-last

@@ -1,8 +1,7 @@
 -- `starting` meets its contract. The loop's invariant: the table holds what the rows below y show, and `row` is the last of them.
 use Rattle.std.proofs.Common.{arith}
 use mathlib.Core.Path.{◌≡◌, sym, ap, ap₂, subst, ◌∙◌}
-use Prim.Native.Nat.{ℕ, ◌-◌, ◌≤◌, ◌<◌}
-use borrow.Author.Rules.{rules}
+use Prim.Native.Nat.{ℕ, ◌≤◌, ◌<◌}
 use lib.ListN.{get_or}
 use Rattle.grid.specs.Limits.{side, lines}
 use Rattle.grid.proofs.Edges.{number}
@@ -12,7 +11,7 @@ use Rattle.intervals.specs.Table.{table_of}
 use Rattle.cover.specs.Slices.{starting}
 use Rattle.cover.specs.Code.{between, changing}
 use Rattle.cover.proofs.RowChanges.{clear-rows}
-use Rattle.cover.proofs.StartingByChange.{row_below, row-none, no_row, row_on, row-bare, row_put, starting-tabled}
+use Rattle.cover.proofs.StartingByChange.{row-none, no_row, row_on, row-bare, row_put, starting-tabled}
 use Rattle.cover.proofs.slices.starting.Goals as goal
 
 pub changes-requires : goal.changes-requires

@@ -1,7 +1,5 @@
 -- The four bytes of a record, one by one.
 use Rattle.std.proofs.Common.{arith}
-use borrow.Author.Rules.{rules}
-use mathlib.Core.Path.{◌∙◌}
 use Prim.Native.Nat.{◌+◌, ◌*◌}
 use Rattle.grid.specs.Limits.{flash_record}
 use Rattle.gerber.proofs.Records.{flash-bytes}

@@ -1,10 +1,6 @@
 -- The invariant: what was asked is what is asked of the sizes that are left.
 use Rattle.std.proofs.Common.{arith}
-use mathlib.Core.Path.{◌≡◌, sym, ◌∙◌}
-use Prim.Native.Nat.{◌≤◌, ◌-◌, ◌+◌}
-use native.Mathlib.Nat.{zero-add}
-use lib.ListN.{length, take, drop}
-use Rattle.gerber.specs.Code.{place_in}
+use mathlib.Core.Path.{sym, ◌∙◌}
 use Rattle.gerber.proofs.Codes.{place-hit, place-turn, place-over}
 use Rattle.gerber.proofs.apertures.place_of.Goals as goal
 

@@ -1,11 +1,8 @@
 -- The invariant: what was asked is what is asked of the sizes that are left.
-use Rattle.std.proofs.Common.{arith}
-use mathlib.Core.Path.{◌≡◌, sym, ◌∙◌}
+use mathlib.Core.Path.{◌≡◌}
 use Prim.Native.Nat.{◌≤◌, ◌-◌, ◌+◌}
-use native.Mathlib.Nat.{zero-add}
-use lib.ListN.{length, take, drop}
+use lib.ListN.{take, drop}
 use Rattle.gerber.specs.Code.{place_in}
-use Rattle.gerber.proofs.Codes.{place-hit, place-turn, place-over}
 use Rattle.gerber.proofs.apertures.place_of.Given as goal
 
 abbrev pub invariant-loop-k : goal.invariant-loop-k

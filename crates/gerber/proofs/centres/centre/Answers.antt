@@ -1,7 +1,4 @@
 -- The sum stays in range, since the centre has at most ten digits.
-use Rattle.std.proofs.Common.{arith}
-use borrow.Author.Rules.{rules}
-use mathlib.Core.Path.{◌∙◌}
 use Rattle.gerber.proofs.Signs.{centre_known, centre-value}
 use Rattle.gerber.proofs.centres.centre.Goals as goal
 

@@ -1,6 +1,4 @@
 -- Along both axes.
-use Rattle.std.proofs.Common.{arith}
-use borrow.Author.Rules.{rules}
 use mathlib.Core.Path.{sym, ◌∙◌}
 use mir.Facts.{to_z-of_z}
 use Rattle.gerber.proofs.centres.centre_fits.Goals as goal

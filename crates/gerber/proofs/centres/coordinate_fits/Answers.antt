@@ -1,11 +1,7 @@
 -- Beyond ten digits to the right already, or the sum is in range and is compared with both ends.
-use Rattle.std.proofs.Common.{arith}
-use borrow.Author.Rules.{rules}
-use mathlib.Core.Path.{◌≡◌, sym, refl, ◌∙◌}
-use mathlib.Core.Bool.{false}
-use Prim.Native.Nat.{◌+◌, ◌*◌, ◌/◌, suc, ◌≤◌}
-use native.Mathlib.Nat.{mul-le-mul}
-use Rattle.gerber.proofs.Signs.{pitch_most, from-small, centre-beyond, centre_in, centre-value, ten_low, ten_under}
+use mathlib.Core.Path.{sym, refl}
+use Prim.Native.Nat.{◌+◌, ◌*◌, ◌/◌, suc}
+use Rattle.gerber.proofs.Signs.{from-small, centre-beyond, centre_in, centre-value, ten_low, ten_under}
 use Rattle.gerber.proofs.centres.coordinate_fits.Goals as goal
 
 pub returns-then-origin-gt-MOST : goal.returns-then-origin-gt-MOST

@@ -1,6 +1,5 @@
 -- A half pitch for each line of both edges: at most half a million times twice the grid.
 use Rattle.std.proofs.Common.{arith}
-use borrow.Author.Rules.{rules}
 use mathlib.Core.Path.{◌≡◌, ap}
 use Prim.Native.Nat.{suc, ◌+◌, ◌*◌, ◌/◌, ◌≤◌}
 use native.Mathlib.Nat.{mul-le-mul}

@@ -1,6 +1,4 @@
 -- The two tests one after the other are the conjunction.
-use Rattle.std.proofs.Common.{arith}
-use borrow.Author.Rules.{rules}
 use mathlib.Core.Path.{sym, ◌∙◌}
 use Rattle.gerber.proofs.centres.pitch_fits.Goals as goal
 

@@ -1,5 +1,4 @@
 -- The two tests one after the other are the conjunction.
-use Rattle.std.proofs.Common.{arith}
 use borrow.Author.Tests.{le-leb, lt-leb}
 use Rattle.gerber.proofs.centres.pitch_in_range.Goals as goal
 

@@ -1,6 +1,5 @@
 -- The coordinate as it is printed, and then what closes it.
 use Rattle.std.proofs.Common.{arith}
-use borrow.Author.Rules.{rules}
 use mathlib.Core.Path.{sym, ap, ◌∙◌}
 use lib.IntN.{ℤ}
 use lib.ListN.{length}

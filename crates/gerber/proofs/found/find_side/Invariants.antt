@@ -1,18 +1,12 @@
 -- The invariant: what was asked is what is asked of the numbers that are left.
-use Rattle.std.proofs.Common.{arith}
-use borrow.Author.Rules.{rules}
-use mathlib.Core.Path.{◌≡◌, refl, sym, ap, ◌∙◌}
+use mathlib.Core.Path.{◌≡◌}
 use mathlib.Core.List.{◌++◌}
-use Prim.Native.Nat.{ℕ, ◌+◌, ◌-◌, ◌*◌, ◌≤◌}
-use native.Mathlib.Nat.{mul-le-mul}
+use Prim.Native.Nat.{◌+◌, ◌-◌, ◌*◌, ◌≤◌}
 use lib.ListN.{length}
 use Rattle.lists.specs.Lists.{first, from}
-use Rattle.grid.specs.Limits.{side, lines}
-use Rattle.text.specs.Words.{word_at}
+use Rattle.grid.specs.Limits.{lines}
 use Rattle.gerber.specs.File.{millimetres}
 use Rattle.gerber.specs.Parts.{found_of, side_at, found_side}
-use Rattle.gerber.proofs.Signs.{pitch_most}
-use Rattle.gerber.proofs.Compared.{found_nothing, found_here, found-on, found-end}
 use Rattle.gerber.proofs.found.find_side.Given as goal
 
 abbrev pub invariant-loop-n : goal.invariant-loop-n

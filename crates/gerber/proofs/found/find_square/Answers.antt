@@ -1,20 +1,14 @@
 -- The invariant: what is found among all squares is what is found among those from a on.
 use Rattle.std.proofs.Common.{arith}
-use borrow.Author.Rules.{rules}
 use mathlib.Core.Path.{◌≡◌, refl, sym, ap, ◌∙◌}
-use mathlib.Core.Bool.{Bool}
-use mathlib.Core.List.{List, ◌++◌}
-use Prim.Native.Nat.{ℕ, ◌+◌, ◌-◌, ◌≤◌}
+use Prim.Native.Nat.{◌-◌}
 use lib.IntN.{ℤ}
-use lib.ListN.{length}
 use mir.Syntax.{w64}
 use mir.Val.{of_z, to_z}
 use mir.Facts.{to_z-of_z}
 use Rattle.lists.specs.Lists.{first, from}
 use Rattle.grid.specs.Limits.{lines}
-use Rattle.text.specs.Signed.{signed}
-use Rattle.gerber.specs.File.{centre}
-use Rattle.gerber.specs.Parts.{square_at, found_of, found_square}
+use Rattle.gerber.specs.Parts.{found_of, found_square}
 use Rattle.gerber.proofs.Compared.{found_nothing, found_here, found-on, found-end}
 use Rattle.gerber.proofs.found.find_square.Invariants.{test, past}
 use Rattle.gerber.proofs.found.find_square.Goals as goal

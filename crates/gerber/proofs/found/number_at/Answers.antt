@@ -1,8 +1,6 @@
 -- The piece is printed and compared, and then what closes it.
 use Rattle.std.proofs.Common.{arith}
-use borrow.Author.Rules.{rules}
-use mathlib.Core.Path.{◌≡◌, sym, ap, ◌∙◌}
-use lib.ListN.{length}
+use mathlib.Core.Path.{sym, ◌∙◌}
 use Rattle.gerber.proofs.Compared.{number_fits, piece-none, piece_then}
 use Rattle.gerber.proofs.found.number_at.Goals as goal
 

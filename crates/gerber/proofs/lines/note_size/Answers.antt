@@ -1,7 +1,5 @@
 -- A size that has a place stays; another goes behind.
 use Rattle.std.proofs.Common.{arith}
-use borrow.Author.Rules.{rules}
-use mathlib.Core.Path.{sym, ◌∙◌}
 use Rattle.gerber.proofs.Codes.{noted-before, noted-new}
 use Rattle.gerber.proofs.lines.note_size.Goals as goal
 

@@ -1,16 +1,11 @@
 -- The invariant: the sizes noted, and then those of the flashes from the k-th on, are the sizes used.
-use Rattle.std.proofs.Common.{arith}
-use borrow.Author.Rules.{rules}
-use mathlib.Core.Path.{◌≡◌, sym, ap, subst, refl, ◌∙◌}
+use mathlib.Core.Path.{◌≡◌}
 use mathlib.Core.List.{[]}
 use Prim.Native.Nat.{◌≤◌, ◌-◌}
 use lib.ListN.{length, take}
-use Rattle.cover.specs.Code.{rectangle_of, Drawn}
-use Rattle.cover.specs.Records.{flash_in, flashes_in}
-use Rattle.gerber.specs.File.{size_of}
-use Rattle.gerber.specs.Code.{size_code, sizes_of, codes_used}
-use Rattle.gerber.proofs.Records.{flashes_from, flashes-all}
-use Rattle.gerber.proofs.Codes.{used-next, used_over}
+use Rattle.cover.specs.Records.{flashes_in}
+use Rattle.gerber.specs.Code.{sizes_of, codes_used}
+use Rattle.gerber.proofs.Records.{flashes_from}
 use Rattle.gerber.proofs.lines.note_sizes.Given as goal
 
 abbrev pub invariant-loop-k : goal.invariant-loop-k

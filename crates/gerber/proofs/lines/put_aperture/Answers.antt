@@ -1,15 +1,10 @@
 -- The pieces of the line, one after the other.
 use Rattle.std.proofs.Common.{arith}
-use borrow.Author.Rules.{rules}
 use mathlib.Core.Path.{refl}
-use Prim.Native.Nat.{◌*◌, ◌/◌, ◌%◌, ◌≤◌}
-use native.Mathlib.Nat.{mul-le-mul}
-use Rattle.grid.specs.Limits.{side, lines}
 use Rattle.text.proofs.Onward.{start, piece, last}
 use Rattle.gerber.specs.File.{aperture_line}
 use Rattle.gerber.specs.Code.{coded_size}
 use Rattle.gerber.proofs.Pieces.{length_aperture}
-use Rattle.gerber.proofs.Signs.{pitch_most}
 use Rattle.gerber.proofs.lines.put_aperture.Goals as goal
 
 pub put_bytes-number-requires : goal.put_bytes-number-requires

@@ -1,10 +1,9 @@
 -- The invariant: the lines of the sizes before the k-th are written, and the others are left.
 use Rattle.std.proofs.Common.{arith}
-use mathlib.Core.Path.{◌≡◌, sym}
-use Prim.Native.Nat.{◌≤◌, ◌-◌, ◌+◌}
-use lib.ListN.{length, take, drop, get_or}
+use Prim.Native.Nat.{◌+◌}
+use lib.ListN.{take, drop, get_or}
 use lib.Seq.{get_or-take}
-use Rattle.text.proofs.Onward.{Remains, start, fits_next, piece, whole}
+use Rattle.text.proofs.Onward.{start, fits_next, piece, whole}
 use Rattle.gerber.specs.File.{aperture_line, aperture_lines}
 use Rattle.gerber.specs.Code.{largest_code, coded_size, coded_sizes}
 use Rattle.gerber.proofs.Listing.{apertures-next, apertures-over, within-at}

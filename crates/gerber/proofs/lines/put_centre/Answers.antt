@@ -1,15 +1,12 @@
 -- The centre along each axis, and then the line.
 use Rattle.std.proofs.Common.{arith}
-use borrow.Author.Rules.{rules}
-use mathlib.Core.Path.{◌≡◌, sym, ap, subst, ◌∙◌}
+use mathlib.Core.Path.{◌≡◌, ap, ◌∙◌}
 use mathlib.Core.Bool.{true}
-use lib.IntN.{ℤ}
-use lib.ListN.{length}
 use mir.Facts.{to_z-of_z}
 use mir.Syntax.{w64}
 use mir.Val.{of_z, to_z}
 use Rattle.lists.proofs.Truth.{and_left, and_right}
-use Rattle.gerber.specs.File.{centre, coordinate_in_range, flash_line, centre_line}
+use Rattle.gerber.specs.File.{centre, coordinate_in_range}
 use Rattle.gerber.proofs.Signs.{ten_fits}
 use Rattle.gerber.proofs.lines.put_centre.Goals as goal
 

@@ -1,12 +1,8 @@
 -- Nothing where the size is the one before, else the line that selects.
 use Rattle.std.proofs.Common.{arith}
-use borrow.Author.Rules.{rules}
-use mathlib.Core.Path.{◌≡◌, sym, ap}
-use mathlib.Core.Bool.{true, false}
-use lib.ListN.{length}
+use mathlib.Core.Path.{sym}
 use borrow.Author.Tests.{eq-eqb, ne_eqb}
 use Rattle.grid.proofs.Writing.{written_none}
-use Rattle.gerber.specs.Code.{selects_code}
 use Rattle.gerber.proofs.lines.put_change.Goals as goal
 
 pub returns-then-before-size : goal.returns-then-before-size

@@ -1,12 +1,9 @@
 -- The four parts of the file, one after the other; the table of sizes says the apertures.
 use Rattle.std.proofs.Common.{arith}
-use borrow.Author.Rules.{rules}
-use mathlib.Core.Path.{◌≡◌, refl, sym, ap, subst, ◌∙◌}
-use mathlib.Core.Bool.{true}
-use mathlib.Core.List.{List, [], ◌∷◌, ◌++◌}
+use mathlib.Core.Path.{◌≡◌, refl, ap, subst, ◌∙◌}
+use mathlib.Core.List.{List, ◌++◌}
 use mathlib.Core.Option.{none}
-use Prim.Native.Nat.{ℕ, ◌+◌, ◌≤◌}
-use lib.IntN.{ℤ}
+use Prim.Native.Nat.{ℕ, ◌≤◌}
 use lib.ListN.{length, take}
 use mir.Syntax.{w64}
 use mir.Val.{of_z, to_z}
@@ -18,7 +15,7 @@ use Rattle.text.specs.Line.{within}
 use Rattle.text.proofs.Onward.{Remains, start, fits_next, piece, last}
 use Rattle.cover.specs.Records.{flashes_in}
 use Rattle.gerber.specs.File.{head_lines, aperture_lines, flash_lines, apertures, end_line, gerber_file, centres_fit}
-use Rattle.gerber.specs.Code.{coded_sizes, code_lines, codes_used, sizes_of, largest_code}
+use Rattle.gerber.specs.Code.{coded_sizes, code_lines, largest_code}
 use Rattle.gerber.proofs.Sizes.{Drawns, held-drawn, coded_apertures, coded_small, coded_lines}
 use Rattle.gerber.proofs.lines.put_file.Goals as goal
 

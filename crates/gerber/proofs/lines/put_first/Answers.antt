@@ -1,6 +1,5 @@
 -- The comment in version 1, the attribute in any other.
 use Rattle.std.proofs.Common.{arith}
-use borrow.Author.Rules.{rules}
 use borrow.Author.Tests.{eq-eqb, ne_eqb}
 use mathlib.Core.Path.{◌≡◌, ap, subst}
 use Prim.Native.Nat.{ℕ}

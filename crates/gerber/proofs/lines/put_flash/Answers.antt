@@ -1,8 +1,6 @@
 -- The pieces of the line, one after the other.
 use Rattle.std.proofs.Common.{arith}
-use borrow.Author.Rules.{rules}
-use mathlib.Core.Path.{◌≡◌, refl, ap}
-use Prim.Native.Nat.{ℕ}
+use mathlib.Core.Path.{refl, ap}
 use lib.IntN.{ℤ}
 use lib.ListN.{length}
 use mir.Facts.{to_z-of_z}

@@ -1,9 +1,8 @@
 -- The invariant: the lines of the flashes before the k-th are written, and the others are left.
 use Rattle.std.proofs.Common.{arith}
-use borrow.Author.Rules.{rules}
 use mathlib.Core.Path.{◌≡◌, refl, sym, ap, subst, ◌∙◌}
 use mathlib.Core.List.{List, ◌++◌}
-use Prim.Native.Nat.{ℕ, ◌≤◌, ◌-◌, ◌+◌}
+use Prim.Native.Nat.{ℕ, ◌+◌}
 use lib.IntN.{ℤ}
 use lib.ListN.{length, take, length-take}
 use mir.Syntax.{w64}
@@ -11,9 +10,9 @@ use mir.Val.{of_z, to_z}
 use mir.Facts.{to_z-of_z}
 use Rattle.text.proofs.Onward.{Remains, start, fits_next, piece, whole}
 use Rattle.cover.specs.Code.{rectangle_of, Drawn}
-use Rattle.cover.specs.Records.{flash_in, flashes_in}
+use Rattle.cover.specs.Records.{flashes_in}
 use Rattle.gerber.specs.File.{centre_fits, centre_line}
-use Rattle.gerber.specs.Code.{selects_code, code_lines, FlashesHeld}
+use Rattle.gerber.specs.Code.{selects_code, code_lines}
 use Rattle.gerber.proofs.Records.{flashes_from, flashes-all, fit-each}
 use Rattle.gerber.proofs.Codes.{place-most}
 use Rattle.gerber.proofs.Flashing.{Turn, lines_next, lines-over}

@@ -1,8 +1,8 @@
 -- The invariant: what was to be written equals the digits that are left, those before the spot that was reached.
 use Rattle.std.proofs.Common.{arith}
 use mathlib.Core.Path.{◌≡◌, sym, ap, ◌∙◌, refl}
-use Prim.Native.Nat.{ℕ, ◌≤◌, ◌-◌, ◌+◌}
-use lib.ListN.{length, length-set}
+use Prim.Native.Nat.{ℕ, ◌-◌, ◌+◌}
+use lib.ListN.{length-set}
 use Rattle.grid.specs.Rooms.{written}
 use Rattle.gerber.specs.File.{last_digits}
 use Rattle.gerber.proofs.Digits.{length_last, digits-turn, digits-done}

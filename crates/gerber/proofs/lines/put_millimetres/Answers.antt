@@ -1,10 +1,8 @@
 -- The pieces, one after the other.
 use Rattle.std.proofs.Common.{arith}
-use borrow.Author.Rules.{rules}
 use mathlib.Core.Path.{refl}
 use Rattle.text.proofs.Onward.{start, piece, last}
 use Rattle.gerber.specs.File.{millimetres}
-use Rattle.gerber.proofs.Digits.{length_last}
 use Rattle.gerber.proofs.Pieces.{length-millimetres}
 use Rattle.gerber.proofs.lines.put_millimetres.Goals as goal
 

@@ -1,6 +1,5 @@
 -- The pieces of the line, one after the other.
 use Rattle.std.proofs.Common.{arith}
-use borrow.Author.Rules.{rules}
 use mathlib.Core.Path.{refl}
 use Rattle.text.proofs.Onward.{start, piece, last}
 use Rattle.gerber.specs.File.{select_line}

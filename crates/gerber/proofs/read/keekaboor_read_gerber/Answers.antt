@@ -1,6 +1,5 @@
 -- The checks in their order, a line that is not as ruled, or the flashes into the lent room.
 use Rattle.std.proofs.Common.{arith}
-use borrow.Author.Rules.{rules}
 use borrow.Author.Tests.{le-leb, lt-leb}
 use mathlib.Core.Path.{◌≡◌, sym, ap, subst, ◌∙◌}
 use mathlib.Core.List.{List, []}

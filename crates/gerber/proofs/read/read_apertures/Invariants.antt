@@ -1,15 +1,12 @@
 -- The invariant: what was asked is what is asked from here on, with the sizes of the table.
-use Rattle.std.proofs.Common.{arith}
-use borrow.Author.Rules.{rules}
-use mathlib.Core.Path.{◌≡◌, refl, sym, ap, ◌∙◌}
+use mathlib.Core.Path.{◌≡◌}
 use mathlib.Core.List.{[]}
-use Prim.Native.Nat.{ℕ, ◌+◌, ◌-◌, ◌≤◌, ◌<◌}
-use lib.ListN.{length, take, length-set}
+use Prim.Native.Nat.{◌-◌, ◌≤◌}
+use lib.ListN.{length, take}
 use Rattle.grid.specs.Limits.{side}
 use Rattle.gerber.specs.Code.{coded_sizes}
 use Rattle.gerber.specs.Reading.{read_apertures}
 use Rattle.gerber.specs.Parts.{SizesHeld}
-use Rattle.gerber.proofs.ApertureTurns.{apertures-stop, apertures-turn, apertures-all, one-held}
 use Rattle.gerber.proofs.read.read_apertures.Given as goal
 
 abbrev pub invariant-loop-k : goal.invariant-loop-k

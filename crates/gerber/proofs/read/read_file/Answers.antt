@@ -1,8 +1,5 @@
 -- A bad head, or the head, the apertures and the flashes.
-use Rattle.std.proofs.Common.{arith}
-use borrow.Author.Rules.{rules}
-use mathlib.Core.Path.{◌≡◌, refl, sym, ap, subst, ◌∙◌}
-use lib.ListN.{length, take}
+use mathlib.Core.Path.{subst}
 use mir.Facts.{to_z-of_z}
 use Rattle.gerber.specs.Parts.{HeadRead}
 use Rattle.gerber.proofs.ReadOutcomes.{file-bad-into, file-on-into}

@@ -1,6 +1,4 @@
 -- The comment, or else the attribute.
-use Rattle.std.proofs.Common.{arith}
-use borrow.Author.Rules.{rules}
 use mathlib.Core.Path.{sym, ◌∙◌}
 use Rattle.gerber.proofs.ReadOutcomes.{first_comment, first_attribute}
 use Rattle.gerber.proofs.read.read_first.Goals as goal

@@ -1,19 +1,13 @@
 -- The invariant: the flashes so far are in the room, and what was asked is what is asked of the turns that are left.
 use Rattle.std.proofs.Common.{arith}
-use borrow.Author.Rules.{rules}
-use mathlib.Core.Path.{◌≡◌, refl, sym, ap, subst, ◌∙◌}
-use mathlib.Core.List.{[]}
-use Prim.Native.Nat.{ℕ, ◌+◌, ◌-◌, ◌*◌, ◌≤◌, ◌<◌}
-use lib.IntN.{ℤ}
-use lib.ListN.{length, take}
+use mathlib.Core.Path.{sym, ◌∙◌}
+use Prim.Native.Nat.{◌≤◌, ◌<◌}
+use lib.ListN.{length}
 use mir.Facts.{to_z-of_z}
 use mir.Syntax.{w64}
 use mir.Val.{of_z, to_z}
 use Rattle.grid.specs.Limits.{side, flash_room_size}
-use Rattle.gerber.specs.Code.{coded_sizes}
-use Rattle.gerber.specs.Reading.{read_flashes}
-use Rattle.gerber.specs.Parts.{SizesHeld, Sound, ReadInto}
-use Rattle.gerber.proofs.FlashTurns.{Sofar, sofar, is-flash, turned-line, turn-over, turn-bad, turn-past, turn_on}
+use Rattle.gerber.proofs.FlashTurns.{sofar, is-flash, turned-line, turn-over, turn-bad, turn-past, turn_on}
 use Rattle.gerber.proofs.TurnedFlash.{turned-flash}
 use Rattle.gerber.proofs.read.read_flashes.Goals as goal
 

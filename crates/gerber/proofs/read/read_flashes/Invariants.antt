@@ -1,20 +1,12 @@
 -- The invariant: the flashes so far are in the room, and what was asked is what is asked of the turns that are left.
-use Rattle.std.proofs.Common.{arith}
-use borrow.Author.Rules.{rules}
-use mathlib.Core.Path.{◌≡◌, refl, sym, ap, subst, ◌∙◌}
 use mathlib.Core.List.{[]}
-use Prim.Native.Nat.{ℕ, ◌+◌, ◌-◌, ◌*◌, ◌≤◌, ◌<◌}
-use lib.IntN.{ℤ}
-use lib.ListN.{length, take}
-use mir.Facts.{to_z-of_z}
-use mir.Syntax.{w64}
-use mir.Val.{of_z, to_z}
-use Rattle.grid.specs.Limits.{side, flash_room_size}
+use Prim.Native.Nat.{◌+◌, ◌-◌, ◌*◌, ◌≤◌}
+use lib.ListN.{take}
+use Rattle.grid.specs.Limits.{side}
 use Rattle.gerber.specs.Code.{coded_sizes}
 use Rattle.gerber.specs.Reading.{read_flashes}
-use Rattle.gerber.specs.Parts.{SizesHeld, Sound, ReadInto}
-use Rattle.gerber.proofs.FlashTurns.{Sofar, sofar, is-flash, turned-line, turn-over, turn-bad, turn-past, turn_on}
-use Rattle.gerber.proofs.TurnedFlash.{turned-flash}
+use Rattle.gerber.specs.Parts.{Sound}
+use Rattle.gerber.proofs.FlashTurns.{Sofar}
 use Rattle.gerber.proofs.read.read_flashes.Given as goal
 
 abbrev pub invariant-loop-line : goal.invariant-loop-line

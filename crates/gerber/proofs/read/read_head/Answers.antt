@@ -1,7 +1,5 @@
 -- Line by line.
-use Rattle.std.proofs.Common.{arith}
-use borrow.Author.Rules.{rules}
-use mathlib.Core.Path.{◌≡◌, sym, ap, ◌∙◌}
+use mathlib.Core.Path.{sym, ◌∙◌}
 use Rattle.gerber.proofs.ReadOutcomes.{head-stop, head-on, head-last}
 use Rattle.gerber.proofs.read.read_head.Goals as goal
 

@@ -1,8 +1,5 @@
 -- The two tests one after the other.
-use Rattle.std.proofs.Common.{arith}
-use borrow.Author.Rules.{rules}
 use borrow.Author.Tests.{eq-eqb, ne_eqb}
-use mathlib.Core.Path.{◌≡◌, refl, sym, ap, ◌∙◌}
 use Rattle.gerber.proofs.turns.end_turn.Goals as goal
 
 pub returns-then-s-count : goal.returns-then-s-count

@@ -1,8 +1,7 @@
 -- The invariant: what was asked is what is asked of the apertures that are left.
 use Rattle.std.proofs.Common.{arith}
-use borrow.Author.Rules.{rules}
-use mathlib.Core.Path.{◌≡◌, refl, sym, ap, ◌∙◌}
-use Prim.Native.Nat.{ℕ, ◌+◌, ◌-◌, ◌≤◌}
+use mathlib.Core.Path.{◌≡◌, sym, ap, ◌∙◌}
+use Prim.Native.Nat.{◌+◌, ◌-◌}
 use lib.ListN.{length}
 use Rattle.lists.specs.Lists.{first, from}
 use Rattle.gerber.specs.Parts.{found_of, number_line, number_stands, found_select}

@@ -1,12 +1,9 @@
 -- The invariant: what was asked is what is asked of the apertures that are left.
-use Rattle.std.proofs.Common.{arith}
-use borrow.Author.Rules.{rules}
-use mathlib.Core.Path.{◌≡◌, refl, sym, ap, ◌∙◌}
-use Prim.Native.Nat.{ℕ, ◌+◌, ◌-◌, ◌≤◌}
+use mathlib.Core.Path.{◌≡◌}
+use Prim.Native.Nat.{◌+◌, ◌-◌, ◌≤◌}
 use lib.ListN.{length}
 use Rattle.lists.specs.Lists.{first, from}
 use Rattle.gerber.specs.Parts.{found_of, number_line, number_stands, found_select}
-use Rattle.gerber.proofs.Compared.{found_nothing, found_here, found-on, found-end}
 use Rattle.gerber.proofs.turns.find_select.Given as goal
 
 abbrev pub invariant-loop-k : goal.invariant-loop-k

@@ -1,5 +1,4 @@
 -- The two tests one after the other are the conjunction.
-use Rattle.std.proofs.Common.{arith}
 use borrow.Author.Tests.{lt-ltb, le-ltb}
 use Rattle.gerber.proofs.turns.is_current.Goals as goal
 

@@ -1,6 +1,4 @@
 -- The two tests one after the other are the conjunction.
-use Rattle.std.proofs.Common.{arith}
-use borrow.Author.Rules.{rules}
 use borrow.Author.Tests.{le-leb, lt-leb}
 use Rattle.gerber.proofs.turns.may_select.Goals as goal
 

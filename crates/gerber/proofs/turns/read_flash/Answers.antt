@@ -1,6 +1,5 @@
 -- Each exit by its law.
 use Rattle.std.proofs.Common.{arith}
-use borrow.Author.Rules.{rules}
 use mathlib.Core.Path.{sym, ◌∙◌}
 use mir.Facts.{to_z-of_z}
 use Rattle.gerber.specs.File.{Size, bytes}

@@ -1,7 +1,5 @@
 -- The letter, and then the number.
-use Rattle.std.proofs.Common.{arith}
-use borrow.Author.Rules.{rules}
-use mathlib.Core.Path.{◌≡◌, sym, ap, ◌∙◌}
+use mathlib.Core.Path.{sym, ◌∙◌}
 use Rattle.gerber.proofs.SelectRead.{select-none, select-then}
 use Rattle.gerber.proofs.turns.read_select.Goals as goal
 

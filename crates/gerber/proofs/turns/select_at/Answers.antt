@@ -1,8 +1,5 @@
 -- An aperture that may be selected, and then its number.
-use Rattle.std.proofs.Common.{arith}
-use borrow.Author.Rules.{rules}
-use borrow.Author.Tests.{not-true, not-false}
-use mathlib.Core.Path.{◌≡◌, sym, ap, ◌∙◌}
+use mathlib.Core.Path.{sym, ◌∙◌}
 use Rattle.text.specs.Words.{word_at}
 use Rattle.gerber.proofs.turns.select_at.Goals as goal
 

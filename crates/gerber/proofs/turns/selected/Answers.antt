@@ -1,7 +1,4 @@
 -- Field by field.
-use Rattle.std.proofs.Common.{arith}
-use borrow.Author.Rules.{rules}
-use mathlib.Core.Path.{◌≡◌, refl, sym, ap, ◌∙◌}
 use Prim.Native.Nat.{◌+◌}
 use Rattle.gerber.proofs.turns.selected.Goals as goal
 

@@ -1,16 +1,12 @@
 -- Each exit by its law.
 use Rattle.std.proofs.Common.{List, arith}
-use borrow.Author.Rules.{rules}
-use mathlib.Core.Path.{◌≡◌, refl, sym, ap, subst, ◌∙◌}
-use mathlib.Core.Logic.{by_cases}
-use Prim.Native.Nat.{ℕ, ◌+◌, ◌≤◌, ◌<◌}
+use mathlib.Core.Path.{◌≡◌, sym, ap, subst, ◌∙◌}
+use Prim.Native.Nat.{ℕ}
 use lib.IntN.{ℤ}
 use lib.ListN.{length, take}
 use mir.Facts.{to_z-of_z}
-use mir.Syntax.{w64}
-use mir.Val.{of_z, to_z}
 use Rattle.gerber.specs.Code.{coded_sizes}
-use Rattle.gerber.specs.Reading.{selected, flash_at, flash_turn}
+use Rattle.gerber.specs.Reading.{flash_at, flash_turn}
 use Rattle.gerber.specs.Parts.{Sound, turn_of}
 use Rattle.gerber.specs.declared.turns.Reached.{Reached}
 use Rattle.gerber.proofs.CodedSizes.{coded_length}

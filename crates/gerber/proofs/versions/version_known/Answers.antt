@@ -1,5 +1,4 @@
 -- The two tests one after the other are the disjunction.
-use Rattle.std.proofs.Common.{arith}
 use borrow.Author.Tests.{eq-eqb, ne_eqb}
 use Rattle.gerber.proofs.versions.version_known.Goals as goal
 

@@ -1,7 +1,5 @@
 -- The checks in their order; those of version and pitch are the first of them.
-use Rattle.std.proofs.Common.{arith}
-use borrow.Author.Rules.{rules}
-use mathlib.Core.Path.{◌≡◌, sym, ap, ◌∙◌}
+use mathlib.Core.Path.{sym, ap, ◌∙◌}
 use mir.Facts.{to_z-of_z}
 use Rattle.grid.specs.Answers.{first_refusal}
 use Rattle.grid.specs.declared.answers.Answer.{Answer}

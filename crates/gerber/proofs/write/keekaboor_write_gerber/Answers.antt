@@ -1,9 +1,7 @@
 -- A short room goes to the cover; else the cover in rooms of its own, the checks, and the three rooms.
 use Rattle.std.proofs.Common.{arith}
-use borrow.Author.Rules.{rules}
-use borrow.Author.Tests.{leb-true, not-true, not-false}
+use borrow.Author.Tests.{leb-true}
 use mathlib.Core.Path.{◌≡◌, refl, sym, ap, ◌∙◌}
-use mathlib.Core.Bool.{true}
 use Prim.Native.Nat.{ℕ, ◌+◌, ◌-◌, ◌*◌, ◌≤◌}
 use native.Mathlib.Nat.{zero-add}
 use lib.Dec.{leb}

@@ -1,13 +1,9 @@
 -- `broken` meets its contract. The loop's invariant: the square that was asked for is the one found from column `c` on.
-use Rattle.std.proofs.Common.{arith}
-use mathlib.Core.Path.{◌≡◌, sym, ap, ◌∙◌}
+use mathlib.Core.Path.{◌≡◌}
 use Prim.Native.Nat.{◌-◌}
-use borrow.Author.Rules.{rules}
 use Rattle.lists.specs.Lists.{from}
 use Rattle.grid.specs.Raster.{broken_from, broken_square}
-use Rattle.grid.specs.Code.{area_in, place_of}
-use Rattle.grid.proofs.Next.{level_in, level-none}
-use Rattle.grid.proofs.Leftmost.{broken_start, broken_here, broken_on, broken_end}
+use Rattle.grid.specs.Code.{area_in}
 use Rattle.grid.proofs.raster.broken.Given as goal
 
 abbrev pub invariant-loop-c : goal.invariant-loop-c

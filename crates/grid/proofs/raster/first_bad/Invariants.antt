@@ -1,17 +1,12 @@
 -- `first_bad` meets its contract. The loop's invariant: the first bad byte of the raster is the first from `i` on.
-use Rattle.std.proofs.Common.{arith}
-use mathlib.Core.Path.{◌≡◌, sym, ap, ◌∙◌}
+use mathlib.Core.Path.{◌≡◌}
 use mathlib.Core.Bool.{Bool}
 use mathlib.Core.List.{List}
 use Prim.Native.Nat.{ℕ, ◌-◌}
 use lib.Dec.{ltb}
 use lib.ListN.{length, get_or}
-use borrow.Author.Tests.{lt-ltb, le-ltb}
 use Rattle.lists.specs.Lists.{first, from}
-use Rattle.lists.proofs.Searches.{first-here, first-end}
 use Rattle.grid.specs.Raster.{first_bad}
-use Rattle.grid.specs.Code.{or_end}
-use Rattle.grid.proofs.Next.{next-all, next-on}
 use Rattle.grid.proofs.raster.first_bad.Given as goal
 
 abbrev pub bad : List ℕ → ℕ → Bool

@@ -1,11 +1,8 @@
 -- `gap_row` meets its contract: the next empty row above the lowest copper row is the lowest gap, if copper follows it.
-use Rattle.std.proofs.Common.{arith}
-use mathlib.Core.Path.{◌≡◌, sym, ap}
-use mathlib.Core.Option.{some}
-use borrow.Author.Rules.{rules}
-use Rattle.grid.specs.Code.{area_in, level_of}
+use mathlib.Core.Path.{sym, ap}
+use Rattle.grid.specs.Code.{level_of}
 use Rattle.grid.proofs.Next.{level_in, level-none}
-use Rattle.grid.proofs.Gaps.{rise, fall, gap-bare, gap-filled, gap-edge, gap_open}
+use Rattle.grid.proofs.Gaps.{gap-bare, gap-filled, gap-edge, gap_open}
 use Rattle.grid.proofs.raster.gap_row.Goals as goal
 
 pub returns-in_default : goal.returns-in_default

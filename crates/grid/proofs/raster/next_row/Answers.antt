@@ -1,16 +1,9 @@
 -- `next_row` meets its contract. The loop's invariant: the row that was asked for is the next one from `r` on.
 use Rattle.std.proofs.Common.{arith}
-use mathlib.Core.Path.{◌≡◌, refl, sym, ap, ◌∙◌}
-use mathlib.Core.Bool.{Bool}
-use mathlib.Core.List.{List}
-use Prim.Native.Nat.{ℕ, ◌-◌}
-use Rattle.lists.specs.Lists.{first, from}
+use mathlib.Core.Path.{refl, sym, ap, ◌∙◌}
 use Rattle.lists.proofs.Searches.{first-here, first-end}
-use Rattle.grid.specs.Code.{area_in, as_asked, level_of}
-use Rattle.grid.specs.declared.raster.Size.{Size}
-use Rattle.grid.specs.declared.lines.Column.{Column}
+use Rattle.grid.specs.Code.{level_of}
 use Rattle.grid.proofs.Next.{as_asked_lem, next-on}
-use Rattle.grid.proofs.raster.next_row.Invariants.{asked}
 use Rattle.grid.proofs.raster.next_row.Goals as goal
 
 pub loop-r-init : goal.loop-r-init

@@ -1,5 +1,4 @@
 -- `side_fits` meets its contract: the two tests one after the other are the conjunction.
-use Rattle.std.proofs.Common.{arith}
 use borrow.Author.Tests.{le-leb, lt-leb}
 use Rattle.grid.proofs.raster.side_fits.Goals as goal
 

@@ -1,7 +1,5 @@
 -- `size_fits` meets its contract: the two tests one after the other are the conjunction.
-use Rattle.std.proofs.Common.{arith}
 use mathlib.Core.Path.{sym, ◌∙◌}
-use borrow.Author.Rules.{rules}
 use Rattle.grid.proofs.raster.size_fits.Goals as goal
 
 pub returns-then-side_fits : goal.returns-then-side_fits

@@ -1,10 +1,9 @@
 -- The invariant: what was to be written equals what is left of it, at the spot that was reached.
 use Rattle.std.proofs.Common.{arith}
-use mathlib.Core.Path.{◌≡◌, sym, ◌∙◌, refl}
-use Prim.Native.Nat.{◌≤◌, ◌-◌, ◌+◌}
+use mathlib.Core.Path.{sym, ◌∙◌, refl}
+use Prim.Native.Nat.{◌+◌}
 use native.Mathlib.Nat.{add-zero}
-use lib.ListN.{length, drop, get_or, length-set, length-drop, drop_of_length-le}
-use Rattle.grid.specs.Rooms.{written}
+use lib.ListN.{drop, get_or, length-set, length-drop, drop_of_length-le}
 use Rattle.grid.proofs.Writing.{drop-next, write_turn, write_done}
 use Rattle.grid.proofs.rooms.put_bytes.Goals as goal
 

@@ -1,18 +1,11 @@
 -- `bracket_from` meets its contract: before each right line no dependent bracket ends, so the first left line downwards gives a minimal one.
-use Rattle.std.proofs.Common.{arith}
-use mathlib.Core.Path.{◌≡◌, refl, sym, ap, ◌∙◌}
-use mathlib.Core.Bool.{true, false}
+use mathlib.Core.Path.{◌≡◌}
 use mathlib.Core.List.{List}
-use Prim.Native.Nat.{ℕ, suc, ◌+◌, ◌-◌, ◌≤◌, ◌<◌}
-use Rattle.method.specs.Intervals.{Interval as Span, span}
-use Rattle.method.specs.Dependent.{dependent}
-use Rattle.method.specs.Final.{leftmost}
-use Rattle.method.proofs.Search.{downward, downward-hit, downward_miss, downward-end, downward-minimal, before-next}
-use Rattle.grid.specs.Lines.{interval}
-use Rattle.intervals.specs.declared.Found.TheVariants.{Nothing, At}
-use Rattle.intervals.specs.Table.{set_of, found_of}
+use Prim.Native.Nat.{ℕ, suc, ◌-◌, ◌≤◌}
+use Rattle.method.specs.Intervals.{Interval as Span}
+use Rattle.method.proofs.Search.{downward}
+use Rattle.intervals.specs.Table.{set_of}
 use Rattle.intervals.specs.Search.{NoneBefore}
-use Rattle.intervals.proofs.LeftmostAt.{leftmost-at, leftmost-past}
 use Rattle.intervals.proofs.bracket.bracket_from.Given as goal
 
 -- of the left lines before line r those from l on give nothing

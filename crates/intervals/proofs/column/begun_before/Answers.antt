@@ -1,7 +1,6 @@
 -- `begun_before` meets its contract: the column's right line, where the column lies before the last line.
 use Rattle.std.proofs.Common.{arith}
 use mathlib.Core.Path.{◌≡◌, sym, ap, ◌∙◌}
-use borrow.Author.Rules.{rules}
 use Rattle.grid.specs.Lines.{line}
 use Rattle.grid.proofs.Edges.{number}
 use Rattle.intervals.proofs.ColumnRows.{begun-on, begun-none}

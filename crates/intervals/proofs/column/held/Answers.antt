@@ -1,8 +1,7 @@
 -- `held` meets its contract: after the rows before line l the count is that of their intervals that hold the column.
 use Rattle.std.proofs.Common.{arith}
 use mathlib.Core.Path.{◌≡◌, sym, ap, ◌∙◌}
-use Prim.Native.Nat.{◌+◌, ◌-◌, ◌≤◌}
-use borrow.Author.Rules.{rules}
+use Prim.Native.Nat.{◌+◌}
 use Rattle.lists.specs.Lists.{count}
 use Rattle.method.specs.Intervals.{holds}
 use Rattle.grid.proofs.Edges.{number}

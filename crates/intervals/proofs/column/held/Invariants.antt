@@ -1,17 +1,9 @@
 -- `held` meets its contract: after the rows before line l the count is that of their intervals that hold the column.
-use Rattle.std.proofs.Common.{arith}
-use mathlib.Core.Path.{◌≡◌, sym, ap, ◌∙◌}
-use Prim.Native.Nat.{◌+◌, ◌-◌, ◌≤◌}
-use borrow.Author.Rules.{rules}
-use Rattle.lists.specs.Lists.{count}
+use mathlib.Core.Path.{◌≡◌}
+use Prim.Native.Nat.{◌-◌, ◌≤◌}
 use Rattle.method.specs.Intervals.{holds}
-use Rattle.grid.proofs.Edges.{number}
 use Rattle.intervals.specs.Table.{set_of}
-use Rattle.intervals.specs.Counts.{begun_before}
-use Rattle.intervals.proofs.TableLaws.{set-listed}
-use Rattle.intervals.proofs.SetSizes.{set_bound}
-use Rattle.intervals.proofs.RowCounts.{before, before-none, before_bound}
-use Rattle.intervals.proofs.ColumnRows.{held_next, held_all}
+use Rattle.intervals.proofs.RowCounts.{before}
 use Rattle.intervals.proofs.column.held.Given as goal
 
 abbrev pub invariant-loop-l : goal.invariant-loop-l

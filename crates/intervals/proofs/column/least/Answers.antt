@@ -1,8 +1,6 @@
 -- `least` meets its contract: from no line passed does an interval hold the column, and of the first row that has one the first end beyond it is the least.
 use Rattle.std.proofs.Common.{arith}
 use mathlib.Core.Path.{◌≡◌, sym, ap, ◌∙◌}
-use Prim.Native.Nat.{◌-◌}
-use borrow.Author.Rules.{rules}
 use Rattle.method.specs.Strike.{least}
 use Rattle.grid.specs.Lines.{interval}
 use Rattle.grid.proofs.Edges.{number}
@@ -10,7 +8,7 @@ use Rattle.intervals.specs.declared.Found.TheVariants.{At}
 use Rattle.intervals.specs.Table.{set_of, found_of}
 use Rattle.intervals.specs.Counts.{begun_before}
 use Rattle.intervals.proofs.TableLaws.{set-listed}
-use Rattle.intervals.proofs.ColumnRows.{least_from, least_start, least-here, least_on, least-over}
+use Rattle.intervals.proofs.ColumnRows.{least_start, least-here, least_on, least-over}
 use Rattle.intervals.proofs.column.least.Goals as goal
 
 pub loop-l-init : goal.loop-l-init

@@ -1,11 +1,10 @@
 -- `strike` meets its contract: the rows before line l are struck, and all others are as they were.
 use Rattle.std.proofs.Common.{arith}
 use mathlib.Core.Path.{◌≡◌, sym, ap, ◌∙◌}
-use Prim.Native.Nat.{◌+◌, ◌-◌, ◌≤◌}
-use borrow.Author.Rules.{rules}
+use Prim.Native.Nat.{◌+◌}
 use Rattle.method.specs.Strike.{strike}
 use Rattle.grid.proofs.Edges.{number}
-use Rattle.intervals.specs.Table.{set_of, table_of, Tabled, cut_at}
+use Rattle.intervals.specs.Table.{set_of, table_of, cut_at}
 use Rattle.intervals.specs.Counts.{begun_before}
 use Rattle.intervals.proofs.TableLaws.{set-listed, left_as}
 use Rattle.intervals.proofs.ColumnRows.{struck_to, struck_listed, struck_none, struck_next, struck_all}

@@ -1,28 +1,13 @@
 -- `dependent` meets its contract: the two lines are the greatest of the bracket's rows before line l, and every column before l is held twice.
 -- With row l the lines beyond l are the intervals that hold column l: no later row holds it.
-use Rattle.std.proofs.Common.{arith}
-use mathlib.Core.Path.{◌≡◌, sym, ap}
-use mathlib.Core.Bool.{true, false}
 use mathlib.Core.List.{List}
-use mathlib.Core.Logic.{by_cases}
-use Prim.Native.Nat.{ℕ, suc, ◌+◌, ◌-◌, ◌≤◌, ◌<◌}
-use native.Mathlib.Decide.{ℕ_discrete}
-use native.Mathlib.Numerals.{add-one}
-use Rattle.lists.proofs.Truth.{fails}
+use Prim.Native.Nat.{ℕ, ◌-◌, ◌≤◌, ◌<◌}
 use Rattle.method.specs.Intervals.{Interval as Span, span}
-use Rattle.method.specs.Dependent.{covered_inside, dependent}
-use Rattle.method.specs.Runs.{Listed}
+use Rattle.method.specs.Dependent.{covered_inside}
 use Rattle.method.proofs.Sets.{has, K}
-use Rattle.method.proofs.Boxes.{K-rows, K-no-rows}
-use Rattle.method.proofs.Counts.{covered-box}
-use Rattle.method.proofs.Lines.{holds-lines, lines_hold}
-use Rattle.method.proofs.Minimal.{dependent-proper, dependent-twice, dependent_if, dependent-within}
-use Rattle.grid.specs.Lines.{span_of}
 use Rattle.intervals.specs.declared.dependent.Tops.{Tops}
 use Rattle.intervals.specs.Table.{set_of}
-use Rattle.intervals.specs.Tops.{tops, ends_beyond, Greatest, WithRow}
-use Rattle.intervals.proofs.TableLaws.{set-listed}
-use Rattle.intervals.proofs.TopLines.{ends-box, no_lines, greatest-same}
+use Rattle.intervals.specs.Tops.{Greatest}
 use Rattle.intervals.proofs.dependent.dependent.Given as goal
 
 -- t has the two greatest lines of the rows a to l - 1 of the bracket (a, b), and the columns before l are held twice

@@ -1,6 +1,5 @@
 -- `with_row` meets its contract: what `furthest` finds beyond the lesser line is the row's greatest there, and beyond the greater line its next.
 use Rattle.std.proofs.Common.{arith}
-use borrow.Author.Rules.{rules}
 use Rattle.intervals.proofs.TableLaws.{set-listed}
 use Rattle.intervals.proofs.TopLines.{row_lesser, row-greater}
 use Rattle.intervals.proofs.dependent.with_row.Goals as goal

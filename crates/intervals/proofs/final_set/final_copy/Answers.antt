@@ -1,7 +1,5 @@
 -- `final_copy` meets its contract: what is finished is a copy of the set, and the room holds a record for each of its intervals.
-use Rattle.std.proofs.Common.{arith}
 use mathlib.Core.Path.{refl, sym, ap, subst, ◌∙◌}
-use borrow.Author.Rules.{rules}
 use Rattle.method.specs.Final.{final}
 use Rattle.grid.specs.Limits.{bracket_room}
 use Rattle.intervals.specs.Table.{set_of, table_of, Tabled}

@@ -1,8 +1,6 @@
 -- `final_set` meets its contract: each turn reduces rule 5's bracket and notes it; where none is left, the set is final.
 use Rattle.std.proofs.Common.{arith}
-use lib.ListN.{length}
-use Rattle.intervals.specs.Table.{set_of}
-use Rattle.intervals.proofs.FinishSteps.{OnWay, finished-long, way_start, turn-over, turn-next}
+use Rattle.intervals.proofs.FinishSteps.{finished-long, way_start, turn-over, turn-next}
 use Rattle.intervals.proofs.final_set.final_set.Goals as goal
 
 pub reduce_next-requires : goal.reduce_next-requires

@@ -2,7 +2,6 @@
 use Rattle.std.proofs.Common.{arith}
 use mathlib.Core.Path.{◌≡◌}
 use mathlib.Core.Option.{some}
-use borrow.Author.Rules.{rules}
 use Rattle.method.specs.Final.{leftmost}
 use Rattle.grid.specs.Lines.{span_of}
 use Rattle.intervals.specs.Table.{set_of}

@@ -2,7 +2,6 @@
 use Rattle.std.proofs.Common.{arith}
 use mathlib.Core.Path.{◌≡◌, ap, ap₂, ◌∙◌}
 use Prim.Native.Nat.{min}
-use borrow.Author.Rules.{rules}
 use Rattle.lists.specs.Lists.{first, down}
 use Rattle.grid.specs.Lines.{line}
 use Rattle.grid.specs.declared.lines.Interval.{Interval}

@@ -1,11 +1,8 @@
 -- `reduce` meets its contract: before line l the rows are as rule 4 leaves them, and the interval that is carried reaches as far as the staircase.
-use Rattle.std.proofs.Common.{arith}
 use mathlib.Core.Path.{◌≡◌, ap, ◌∙◌, subst⁻¹}
 use mathlib.Core.Bool.{false}
 use mathlib.Core.List.{List}
-use mathlib.Core.Logic.{⊎_elim}
-use Prim.Native.Nat.{ℕ, ◌+◌, ◌-◌}
-use borrow.Author.Rules.{rules}
+use Prim.Native.Nat.{ℕ, ◌+◌}
 use Rattle.method.specs.Intervals.{Interval as Span, span}
 use Rattle.grid.specs.Lines.{span_of}
 use Rattle.intervals.specs.Table.{set_of, table_of, with, without}

@@ -3,9 +3,8 @@
 use Rattle.std.proofs.Common.{arith}
 use mathlib.Core.Path.{◌≡◌, refl, sym, ap, ◌∙◌, subst}
 use mathlib.Core.List.{List}
-use mathlib.Core.Option.{none, some, map}
+use mathlib.Core.Option.{some, map}
 use Prim.Native.Nat.{ℕ, ◌+◌, ◌-◌, ◌≤◌, ◌<◌}
-use borrow.Author.Rules.{rules}
 use Rattle.lists.specs.Lists.{first, down}
 use Rattle.lists.proofs.Searches.{down-here, down-on}
 use Rattle.method.specs.Intervals.{Interval as Span, span}

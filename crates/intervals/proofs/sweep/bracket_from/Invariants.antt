@@ -1,30 +1,15 @@
 -- `bracket_from` meets its contract: no dependent bracket ends before line `right`, and none that ends there begins at line l or after.
 -- What a sweep finds is rule 5's bracket; a sweep that finds nothing lets the right line go on to the next at which one may end.
-use Rattle.std.proofs.Common.{arith}
-use mathlib.Core.Path.{◌≡◌, refl, sym, ap, ◌∙◌, subst}
+use mathlib.Core.Path.{◌≡◌}
 use mathlib.Core.List.{List}
-use mathlib.Core.Option.{none, some, map}
-use Prim.Native.Nat.{ℕ, ◌+◌, ◌-◌, ◌≤◌, ◌<◌}
-use borrow.Author.Rules.{rules}
+use Prim.Native.Nat.{ℕ, ◌-◌, ◌≤◌}
 use Rattle.lists.specs.Lists.{first, down}
-use Rattle.lists.proofs.Searches.{down-here, down-on}
 use Rattle.method.specs.Intervals.{Interval as Span, span}
 use Rattle.method.specs.Dependent.{dependent}
-use Rattle.method.specs.Final.{leftmost}
-use Rattle.method.specs.Runs.{Listed}
-use Rattle.method.proofs.Minimal.{dependent-within}
-use Rattle.method.proofs.Search.{ended-leftmost}
-use Rattle.intervals.specs.declared.Found.TheVariants.{Nothing}
 use Rattle.intervals.specs.declared.sweep.Held.{Held}
-use Rattle.intervals.specs.declared.sweep.Step.{Step}
-use Rattle.intervals.specs.declared.sweep.Step.TheVariants.{Dependent as Hit, On}
-use Rattle.intervals.specs.Table.{set_of, found_of}
+use Rattle.intervals.specs.Table.{set_of}
 use Rattle.intervals.specs.Search.{NoneBefore}
-use Rattle.intervals.specs.Sweep.{Swept, Told, shortest}
-use Rattle.intervals.proofs.TableLaws.{right_lines, set-listed}
-use Rattle.intervals.proofs.SweepSteps.{lowest, swept_start}
-use Rattle.intervals.proofs.SweepSearch.{swept_leftmost, swept_on}
-use Rattle.intervals.proofs.DoubledLines.{next-beyond, none_between}
+use Rattle.intervals.specs.Sweep.{Swept}
 use Rattle.intervals.proofs.sweep.bracket_from.Given as goal
 
 -- the sweep for line b has come down to line l

@@ -5,8 +5,6 @@ use mathlib.Core.Path.{◌≡◌, subst⁻¹}
 use mathlib.Core.List.{List}
 use mathlib.Core.Option.{some}
 use Prim.Native.Nat.{ℕ, ◌+◌, ◌*◌}
-use borrow.Author.Rules.{rules}
-use lib.ListN.{length}
 use Rattle.method.specs.Intervals.{Interval as Span}
 use Rattle.method.specs.Reduce.{reduce}
 use Rattle.method.specs.Final.{leftmost}
@@ -20,7 +18,7 @@ use Rattle.intervals.specs.Search.{NoneBefore}
 use Rattle.intervals.specs.Finished.{bracket_bytes}
 use Rattle.intervals.specs.Sweep.{EndsAmong}
 use Rattle.intervals.proofs.TableLaws.{set-listed}
-use Rattle.intervals.proofs.FinishSteps.{none_found, some-found, OnWay, finished-long, found-room, found-lines, way_start, way_done, way_left, way_less, way_next}
+use Rattle.intervals.proofs.FinishSteps.{none_found, some-found, finished-long, found-room, found-lines, way_start, way_done, way_left, way_less, way_next}
 use Rattle.intervals.proofs.DoubledLines.{doubled_ends}
 use Rattle.intervals.proofs.sweep.final_set_swept.Invariants.{OnLine}
 use Rattle.intervals.proofs.sweep.final_set_swept.Goals as goal

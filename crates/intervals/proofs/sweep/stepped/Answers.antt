@@ -3,9 +3,6 @@ use Rattle.std.proofs.Common.{arith}
 use mathlib.Core.Path.{◌≡◌, refl}
 use mathlib.Core.List.{List}
 use Prim.Native.Nat.{ℕ, ◌-◌}
-use borrow.Author.Rules.{rules}
-use Rattle.method.specs.Intervals.{Interval as Span}
-use Rattle.method.specs.Runs.{Listed}
 use Rattle.grid.specs.Lines.{line}
 use Rattle.intervals.specs.Table.{set_of}
 use Rattle.intervals.specs.Reach.{reach}

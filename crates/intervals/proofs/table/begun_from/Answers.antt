@@ -1,10 +1,8 @@
 -- `begun_from` meets its contract: at no line passed does an interval begin.
 use Rattle.std.proofs.Common.{arith}
-use mathlib.Core.Path.{◌≡◌, refl, sym, ap, ◌∙◌}
-use Prim.Native.Nat.{◌-◌}
-use borrow.Author.Rules.{rules}
+use mathlib.Core.Path.{refl, sym, ap, ◌∙◌}
 use Rattle.grid.specs.Lines.{line}
-use Rattle.intervals.specs.Table.{set_of, begun_from}
+use Rattle.intervals.specs.Table.{set_of}
 use Rattle.intervals.proofs.TableLaws.{set-listed}
 use Rattle.intervals.proofs.BegunRows.{begun-here, begun-next, begun-over, row-bare, row-begun}
 use Rattle.intervals.proofs.table.begun_from.Goals as goal

@@ -1,7 +1,6 @@
 -- `cut` meets its contract: of the row's word the bits before `end` stay; where there is no such row, or no line beyond `end`, nothing changes.
 use Rattle.std.proofs.Common.{arith}
 use mathlib.Core.Path.{ap, ◌∙◌}
-use borrow.Author.Rules.{rules}
 use Rattle.intervals.specs.Table.{set_of, table_of}
 use Rattle.intervals.proofs.TableLaws.{right_lines, set-listed}
 use Rattle.intervals.proofs.TableRows.{cut-none, cut-row}

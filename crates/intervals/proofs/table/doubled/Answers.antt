@@ -1,8 +1,6 @@
 -- `doubled` meets its contract: after the rows before line l the two words have the bits that one of these rows has, and that two of them have.
 use Rattle.std.proofs.Common.{arith}
 use mathlib.Core.Path.{◌≡◌, subst}
-use Prim.Native.Nat.{◌-◌, ◌≤◌}
-use borrow.Author.Rules.{rules}
 use Rattle.intervals.proofs.DoubledLines.{Ends, ends-start, ends_next, ends-done}
 use Rattle.intervals.proofs.table.doubled.Goals as goal
 

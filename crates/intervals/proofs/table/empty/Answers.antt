@@ -1,5 +1,4 @@
 -- `empty` meets its contract: no bit is on.
-use Rattle.std.proofs.Common.{arith}
 use mathlib.Core.Path.{refl}
 use Rattle.grid.specs.Limits.{side}
 use Rattle.intervals.proofs.TableLaws.{empty-table}

@@ -1,7 +1,7 @@
 -- `ends_beyond` meets its contract: the ends counted and those that are left are all of them.
 use Rattle.std.proofs.Common.{arith}
 use mathlib.Core.Path.{◌≡◌, sym, ap, ◌∙◌}
-use Prim.Native.Nat.{ℕ, suc, ◌+◌}
+use Prim.Native.Nat.{ℕ, suc}
 use Rattle.grid.proofs.Edges.{number}
 use Rattle.intervals.specs.Table.{set_of}
 use Rattle.intervals.specs.Tops.{ends_beyond}

@@ -1,13 +1,8 @@
 -- `ends_beyond` meets its contract: the ends counted and those that are left are all of them.
-use Rattle.std.proofs.Common.{arith}
-use mathlib.Core.Path.{◌≡◌, sym, ap, ◌∙◌}
-use Prim.Native.Nat.{ℕ, suc, ◌+◌}
-use Rattle.grid.proofs.Edges.{number}
+use mathlib.Core.Path.{◌≡◌}
+use Prim.Native.Nat.{ℕ, ◌+◌}
 use Rattle.intervals.specs.Table.{set_of}
-use Rattle.intervals.specs.Tops.{ends_beyond}
-use Rattle.intervals.proofs.TableLaws.{set-listed}
-use Rattle.intervals.proofs.SetSizes.{set_bound}
-use Rattle.intervals.proofs.RowCounts.{ends_from, ends-here, ends_next, ends-one, ends_bound}
+use Rattle.intervals.proofs.RowCounts.{ends_from}
 use Rattle.intervals.proofs.table.ends_beyond.Given as goal
 
 abbrev pub invariant-loop-end : goal.invariant-loop-end

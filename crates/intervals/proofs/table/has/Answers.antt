@@ -2,7 +2,6 @@
 use Rattle.std.proofs.Common.{arith}
 use mathlib.Core.Path.{sym, ◌∙◌}
 use Prim.Native.Nat.{◌≤◌, ◌<◌}
-use borrow.Author.Rules.{rules}
 use Rattle.grid.specs.Lines.{span_of}
 use Rattle.intervals.proofs.TableLaws.{right_lines, within-lines, has-bit, has-none}
 use Rattle.intervals.proofs.table.has.Goals as goal

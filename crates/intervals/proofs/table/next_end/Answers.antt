@@ -2,7 +2,6 @@
 use Rattle.std.proofs.Common.{arith}
 use mathlib.Core.Path.{◌≡◌, ap, ◌∙◌}
 use Prim.Native.Nat.{◌-◌}
-use borrow.Author.Rules.{rules}
 use Rattle.lists.specs.Lists.{first, from}
 use Rattle.grid.specs.Lines.{line}
 use Rattle.grid.specs.Code.{or_end}

@@ -3,7 +3,6 @@ use Rattle.std.proofs.Common.{arith}
 use mathlib.Core.Path.{◌≡◌, refl, sym, ◌∙◌}
 use mathlib.Core.Bool.{Bool, true, false, cond, ◌||◌}
 use Prim.Native.Nat.{◌-◌, ◌≤◌, ◌<◌}
-use borrow.Author.Rules.{rules}
 use lib.Dec.{eqb}
 use lib.ListN.{get_or}
 use Rattle.grid.specs.Lines.{span_of}

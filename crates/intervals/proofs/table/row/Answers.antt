@@ -1,6 +1,5 @@
 -- `row` meets its contract: the table's word of a line before the last one, and no bit for another.
 use Rattle.std.proofs.Common.{arith}
-use borrow.Author.Rules.{rules}
 use Rattle.intervals.proofs.TableLaws.{tabled-row, row-none}
 use Rattle.intervals.proofs.table.row.Goals as goal
 

@@ -1,11 +1,9 @@
 -- `size` meets its contract: after the rows before line l the count is that of their intervals, and every interval begins before the last line.
 use Rattle.std.proofs.Common.{arith}
 use mathlib.Core.Path.{◌≡◌, sym, ◌∙◌}
-use mathlib.Core.Bool.{Bool, true}
-use Prim.Native.Nat.{◌+◌, ◌-◌, ◌≤◌}
+use Prim.Native.Nat.{◌+◌}
 use borrow.Author.Tests.{lt-ltb}
 use Rattle.lists.proofs.Counting.{length-count}
-use Rattle.method.specs.Intervals.{Interval as Span}
 use Rattle.method.proofs.Listed.{in_member, listed-lines}
 use Rattle.intervals.specs.Table.{set_of}
 use Rattle.intervals.proofs.TableLaws.{set-listed}

@@ -1,16 +1,10 @@
 -- `size` meets its contract: after the rows before line l the count is that of their intervals, and every interval begins before the last line.
-use Rattle.std.proofs.Common.{arith}
-use mathlib.Core.Path.{◌≡◌, sym, ◌∙◌}
+use mathlib.Core.Path.{◌≡◌}
 use mathlib.Core.Bool.{Bool, true}
-use Prim.Native.Nat.{◌+◌, ◌-◌, ◌≤◌}
-use borrow.Author.Tests.{lt-ltb}
-use Rattle.lists.proofs.Counting.{length-count}
+use Prim.Native.Nat.{◌-◌, ◌≤◌}
 use Rattle.method.specs.Intervals.{Interval as Span}
-use Rattle.method.proofs.Listed.{in_member, listed-lines}
 use Rattle.intervals.specs.Table.{set_of}
-use Rattle.intervals.proofs.TableLaws.{set-listed}
-use Rattle.intervals.proofs.SetSizes.{set_bound}
-use Rattle.intervals.proofs.RowCounts.{before, before-none, before_bound, before-all, before-next}
+use Rattle.intervals.proofs.RowCounts.{before}
 use Rattle.intervals.proofs.table.size.Given as goal
 
 abbrev pub each : Span → Bool

@@ -1,7 +1,6 @@
 -- `within` meets its contract: every interval begins at line 0 or after.
 use Rattle.std.proofs.Common.{arith}
 use mathlib.Core.Path.{ap, ◌∙◌}
-use borrow.Author.Rules.{rules}
 use borrow.Author.Tests.{le-leb}
 use Rattle.grid.specs.Lines.{contains_of}
 use Rattle.intervals.proofs.table.within.Goals as goal

@@ -2,7 +2,6 @@
 use Rattle.std.proofs.Common.{arith}
 use mathlib.Core.Path.{refl, ap}
 use mathlib.Core.List.{◌++◌}
-use borrow.Author.Rules.{rules}
 use lib.ListN.{length}
 use Rattle.printed.specs.Printed.{printed, cover_line, refused_line, flash_lines, mark_lines, marks_after}
 use Rattle.text.proofs.Onward.{Remains, start, fits_next, piece, last, whole}

@@ -1,7 +1,5 @@
 -- `found` meets its contract: a refusal at the place, or none, behind the one that stands.
-use Rattle.std.proofs.Common.{arith}
 use mathlib.Core.Path.{ap, ◌∙◌}
-use borrow.Author.Rules.{rules}
 use Rattle.grid.specs.Answers.{or_else}
 use Rattle.grid.proofs.answers.Answer.found.Goals as goal
 

@@ -1,5 +1,4 @@
 -- `or` meets its contract: the number tells whether the answer stands.
-use Rattle.std.proofs.Common.{arith}
 use mathlib.Core.Path.{sym}
 use Rattle.grid.proofs.Chain.{stands, gives_way}
 use Rattle.grid.proofs.answers.Answer.or.Goals as goal

@@ -1,7 +1,5 @@
 -- `unless` meets its contract: the check's answer, by its test, behind the one that stands.
-use Rattle.std.proofs.Common.{arith}
 use mathlib.Core.Path.{ap, ◌∙◌}
-use borrow.Author.Rules.{rules}
 use Rattle.grid.specs.Answers.{or_else}
 use Rattle.grid.proofs.answers.Answer.unless.Goals as goal
 

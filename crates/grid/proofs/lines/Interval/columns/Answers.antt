@@ -1,7 +1,6 @@
 -- `Interval::columns` meets its contract: the column after the left line and the column before the right line.
 use Rattle.std.proofs.Common.{arith}
 use mathlib.Core.Path.{ap₂}
-use borrow.Author.Rules.{rules}
 use borrow.Author.Tests.{lt-ltb, le-ltb}
 use Rattle.grid.specs.declared.lines.Columns.TheVariants.{Run}
 use Rattle.grid.proofs.Edges.{of_left, of_right}

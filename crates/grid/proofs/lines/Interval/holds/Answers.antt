@@ -1,8 +1,6 @@
 -- `Interval::holds` meets its contract: the two tests of the column's left line, one after the other, are the conjunction.
-use Rattle.std.proofs.Common.{arith}
 use mathlib.Core.Path.{◌≡◌, sym, ap}
 use Prim.Native.Nat.{ℕ, ◌≤◌, ◌<◌}
-use borrow.Author.Rules.{rules}
 use borrow.Author.Tests.{le-leb, lt-leb}
 use lib.Dec.{leb, ltb}
 use Rattle.method.specs.Intervals.{Interval as Span, holds}

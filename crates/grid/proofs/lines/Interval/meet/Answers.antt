@@ -1,7 +1,5 @@
 -- `Interval::meet` meets its contract: from the greater left line to the lesser right line.
-use Rattle.std.proofs.Common.{arith}
 use mathlib.Core.Path.{ap₂}
-use borrow.Author.Rules.{rules}
 use Rattle.grid.specs.Lines.{interval}
 use Rattle.grid.proofs.lines.Interval.meet.Goals as goal
 

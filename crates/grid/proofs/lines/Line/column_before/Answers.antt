@@ -1,7 +1,6 @@
 -- `Line::column_before` meets its contract: one less and one more is the line itself.
 use Rattle.std.proofs.Common.{arith}
-use mathlib.Core.Path.{◌≡◌, ap}
-use Prim.Native.Nat.{◌+◌, ◌-◌}
+use mathlib.Core.Path.{ap}
 use Rattle.grid.specs.Lines.{line}
 use Rattle.grid.proofs.lines.Line.column_before.Goals as goal
 

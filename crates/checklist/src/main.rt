@@ -20,8 +20,8 @@ const JOB_ROOM: usize = TEXT_ROOM + 1;
 // The longest list has 26,624 bytes: what lies beyond this room could only turn a refusal for too many flashes into one for a line.
 const LIST_ROOM: usize = 65536;
 
-// The longest path has fewer bytes.
-const PATH_ROOM: usize = 4096;
+// One byte more than the longest path that the system takes.
+const PATH_ROOM: usize = 1 << 12;
 
 // What a file begins with, as much as the room holds.
 fn read_file(rt: &impl Files, path: &str, room: &mut [u8]) -> io::Result<usize>

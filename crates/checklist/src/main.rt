@@ -21,43 +21,35 @@ const JOB_ROOM: usize = TEXT_ROOM + 1;
 const LIST_ROOM: usize = 65536;
 
 // One byte more than the longest path that the system takes.
-const PATH_ROOM: usize = 1 << 12;
+const PATH_ROOM: usize = 4096;
 
-// What a file begins with, as much as the room holds.
-fn read_file(rt: &impl Files, path: &str, room: &mut [u8]) -> io::Result<usize>
+// What the file that an argument names begins with, as much as the room holds; nothing where it cannot be opened, which standard error tells.
+fn read_named(rt: &(impl Env + Eprint + Files), number: usize, room: &mut [u8]) -> io::Result<usize>
     ensures { IfOk result (λ n. n ≤ length room.new) }
-{
-    let mut file = fs::open(rt, path)?;
-    read_full(&mut file, room)
-}
-
-// What the file that an argument names begins with, as much as the room holds; nothing where it cannot be read, which standard error tells.
-fn read_named(rt: &(impl Env + Eprint + Files), number: usize, room: &mut [u8]) -> usize
-    ensures { result ≤ length room.new }
 {
     let mut path_room = [0u8; PATH_ROOM];
     let Ok(length) = rt.arg(number, &mut path_room) else {
         let _ = eprintln!(rt; "argument {number}: missing or too long");
-        return 0;
+        return Ok(0);
     };
     let Ok(path) = str::from_utf8(&path_room[..length]) else {
         let _ = eprintln!(rt; "argument {number}: not UTF-8");
-        return 0;
+        return Ok(0);
     };
-    match read_file(rt, path, room) {
-        Ok(count) => count,
+    match fs::open(rt, path) {
+        Ok(mut file) => read_full(&mut file, room),
         Err(error) => {
             let _ = eprintln!(rt; "{path}: {error}");
-            0
+            Ok(0)
         }
     }
 }
 
 fn main(rt: HostRuntime) -> io::Result<()> {
     let mut text = [0u8; JOB_ROOM];
-    let length = read_named(&rt, 1, &mut text);
+    let length = read_named(&rt, 1, &mut text)?;
     let mut list = [0u8; LIST_ROOM];
-    let listed = read_named(&rt, 2, &mut list);
+    let listed = read_named(&rt, 2, &mut list)?;
     let mut out = [0u8; PRINT_ROOM];
     let printed = answer(&text[..length], &list[..listed], &mut out);
     rt.write_all(&out[..printed])

@@ -80,7 +80,7 @@ const HEADS: usize = 3;
 
 fn read_apertures(text: &[u8], spot: usize, pitch: u64, sizes: &mut [u64]) -> Sizes
     requires { (pitch_fits pitch ≡ true) × (side ≤ length sizes.old) }
-    ensures { (record { sizes = coded_sizes (take result.count sizes.exit.now); past = result.past } ≡ read_apertures side pitch text.now (record { sizes = []; past = spot })) × SizesHeld result.count sizes.exit.now }
+    ensures { (record { sizes = coded_sizes (take result.count sizes.new); past = result.past } ≡ read_apertures side pitch text.now (record { sizes = []; past = spot })) × SizesHeld result.count sizes.new }
 {
     let mut at = spot;
     for k in 0..SIDE {

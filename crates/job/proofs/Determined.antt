@@ -1,6 +1,6 @@
 -- Every public function's contract determines its outcome: no second answer fits, and no other byte in a lent room.
 -- Each contract is an equation with a definition of the arguments, or a pair of such equations. Of the two entry points it is said of `ReadJob` and
--- `WriteJob` too; of the functions over the reader, which are walked, of the clauses that the walks meet.
+-- `WriteJob` too; of the functions over the reader, of the clauses that they meet.
 use mathlib.Core.Path.{◌≡◌, refl, sym, ◌∙◌}
 use mathlib.Core.List.{List}
 use Prim.Native.Nat.{ℕ}

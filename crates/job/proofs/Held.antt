@@ -1,4 +1,4 @@
--- The two types that the walks of reader/ pass about, at a signature's one lifetime: a text that was lent, and a `Reader`, which holds one.
+-- The two types that the functions of reader/ pass about, at a signature's one lifetime: a text that was lent, and a `Reader`, which holds one.
 use Prim.Native.Nat.{ℕ}
 use mathlib.Core.List.{List}
 use lib.ListN.{length}

@@ -6,18 +6,6 @@ use Rattle.text.specs.Decimal.{digits, decimal}
 use Rattle.checklist.proofs.Program.{within}
 use Rattle.checklist.proofs.main.Goals as goal
 
-pub slice_bounds-text-end : goal.slice_bounds-text-end
-slice_bounds-text-end c = c.read_named-length.ensures
-
-pub slice_bounds-answer-end : goal.slice_bounds-answer-end
-slice_bounds-answer-end c = let r = c.read_named-length in sym (length-take-le r.result r.new.room r.ensures)
-
-pub slice_bounds-list-end : goal.slice_bounds-list-end
-slice_bounds-list-end c = c.read_named-listed.ensures
-
-pub slice_bounds-answer-end-2 : goal.slice_bounds-answer-end-2
-slice_bounds-answer-end-2 c = let r = c.read_named-listed in sym (length-take-le r.result r.new.room r.ensures)
-
 pub slice_bounds-out-end : goal.slice_bounds-out-end
 slice_bounds-out-end c = within c.answer-printed.ensures
 

@@ -1,10 +1,8 @@
 -- What the check program prints for the texts of a job and of a list. It reads the job first, then checks the list.
-use Rattle.std.specs.Prelude.{cond, List, [], ◌∷◌, ◌++◌, ℕ, eqb, replicate}
+use Rattle.std.specs.Prelude.{cond, List, [], ◌∷◌, ◌++◌, ℕ, eqb, replicate, Ok, Err}
 use Rattle.grid.specs.Limits.{mark_room_size, raster_room}
 use Rattle.text.specs.Line.{line}
-use Rattle.job.specs.Reading.{judged, raster_from}
-use Rattle.job.specs.declared.read.Judged.{Judged}
-use Rattle.job.specs.declared.read.Judged.TheVariants.{Refused, Fine}
+use Rattle.job.specs.Reading.{Judged, judged, raster_from}
 use Rattle.printed.specs.Printed.{refused_word, mark_lines}
 use Rattle.listcheck.specs.Checked.{Given, bad, bare, refused_at, check_gives}
 use Rattle.listcheck.specs.declared.entry.Checked.{Checked}
@@ -43,8 +41,8 @@ abbrev pub refusal_text : ℕ → ℕ → ℕ → List ℕ
 refusal_text n x y = given_text (refused_at (record { number = n; x = x; y = y }) [])
 
 abbrev pub judged_text : List ℕ → List ℕ → Judged → List ℕ
-judged_text text list (Refused a) = refusal_text a.number a.x a.y
-judged_text text list (Fine job spot) =
+judged_text text list (Err a) = refusal_text a.number a.x a.y
+judged_text text list (Ok (job, spot)) =
     check_text job.size.width job.size.height job.allowance (raster_from text job.size.width job.size.height spot) list
 
 unfoldable pub program_text : List ℕ → List ℕ → List ℕ

@@ -2,13 +2,14 @@
 ghost use Rattle.std.specs.Prelude.{◌≤◌, length};
 ghost use Rattle.grid.specs.Rooms.{Written};
 ghost use Rattle.printed.specs.Printed.{print_room};
-ghost use Rattle.checklist.specs.Program.{check_text, refusal_text, program_text};
+ghost use Rattle.checklist.specs.Program.{check_text, program_text};
 
 use crate::print::print_checked;
-use grid::answers::DONE;
+use grid::answers::{Answer, DONE};
 use grid::limits::{MARK_ROOM, RASTER_ROOM};
 use job::read::keekaboor_read_job;
-use listcheck::entry::{Checked, keekaboor_check};
+use listcheck::entry::keekaboor_check;
+use printed::outcome::print_refusal;
 
 fn print_check(
     width: u64,
@@ -26,24 +27,6 @@ fn print_check(
     print_checked(checked, &mark_room, out)
 }
 
-// A refusal has no marks.
-fn print_refusal(number: u64, x: u64, y: u64, out: &mut [u8]) -> usize
-    requires { print_room ≤ length out.old }
-    ensures { Written out.old 0 (refusal_text number x y) result out.new }
-{
-    let none = [0u8; 0];
-    let checked = Checked {
-        answer: number,
-        place_x: x,
-        place_y: y,
-        verdict: 0,
-        flashes: 0,
-        above: 0,
-        marks: 0,
-    };
-    print_checked(checked, &none, out)
-}
-
 pub fn answer(text: &[u8], list: &[u8], out: &mut [u8]) -> usize
     requires { print_room ≤ length out.old }
     ensures { Written out.old 0 (program_text text.now list.now) result out.new }
@@ -51,7 +34,12 @@ pub fn answer(text: &[u8], list: &[u8], out: &mut [u8]) -> usize
     let mut room = [0u8; RASTER_ROOM];
     let read = keekaboor_read_job(text, &mut room);
     if read.answer != DONE {
-        return print_refusal(read.answer, read.place_x, read.place_y, out);
+        let refusal = Answer {
+            number: read.answer,
+            x: read.place_x,
+            y: read.place_y,
+        };
+        return print_refusal(refusal, out);
     }
     let size = (read.width * read.height) as usize;
     print_check(

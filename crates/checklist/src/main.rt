@@ -45,6 +45,7 @@ fn read_named(rt: &(impl Env + Eprint + Files), number: usize, room: &mut [u8]) 
     }
 }
 
+#[tactic(auto, unfolding(text::specs::Decimal::decimal, text::specs::Decimal::digits))]
 fn main(rt: HostRuntime) -> io::Result<()> {
     let mut text = [0u8; JOB_ROOM];
     let length = read_named(&rt, 1, &mut text)?;

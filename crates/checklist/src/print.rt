@@ -10,24 +10,22 @@ use grid::limits::MARK_RECORD;
 use listcheck::entry::{BAD, BARE, Checked};
 use text::line::{put_line, put_record_lines};
 
+#[tactic(auto, unfolding(crate::specs::Program::verdict_line))]
 fn put_verdict(out: &mut [u8], checked: Checked) -> usize
     requires { length (verdict_line checked) ≤ length out.old }
     ensures { Written out.old 0 (verdict_line checked) result out.new }
 {
-    if checked.answer != DONE {
-        let numbers = [checked.answer, checked.place_x, checked.place_y];
-        return put_line(out, 0, b"refused", &numbers);
+    match (checked.answer, checked.verdict) {
+        (DONE, BAD) => put_line(out, 0, b"bad", &[checked.place_x]),
+        (DONE, BARE) => put_line(out, 0, b"bare", &[checked.place_x, checked.place_y]),
+        (DONE, _) => put_line(out, 0, b"sound", &[checked.above]),
+        (answer, _) => put_line(
+            out,
+            0,
+            b"refused",
+            &[answer, checked.place_x, checked.place_y],
+        ),
     }
-    if checked.verdict == BAD {
-        let numbers = [checked.place_x];
-        return put_line(out, 0, b"bad", &numbers);
-    }
-    if checked.verdict == BARE {
-        let numbers = [checked.place_x, checked.place_y];
-        return put_line(out, 0, b"bare", &numbers);
-    }
-    let numbers = [checked.above];
-    put_line(out, 0, b"sound", &numbers)
 }
 
 // No verdict but sound, and no refusal, has marks.

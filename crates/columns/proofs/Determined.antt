@@ -2,6 +2,7 @@
 -- The answer and the sum are given by equations; a room that is filled by a rule is one.
 use mathlib.Core.Path.{refl, sym, ◌∙◌}
 use Rattle.grid.proofs.Outcome.{Determined}
+use Rattle.grid.proofs.Refusals.{passed-tells}
 use Rattle.columns.proofs.Filling.{filled-one}
 use Rattle.columns.proofs.checks.columns_checked
 use Rattle.columns.proofs.copper.heights
@@ -12,7 +13,7 @@ pub columns-checked-determined : Determined columns_checked.Kinds.ps columns_che
 columns-checked-determined κs a pre x y v w p q =
     let b = filled-one _ _ p.1.0 q.1.0 in
     let e = filled-one _ _ p.1.1 q.1.1 in
-    (p.0 ∙ sym q.0, λ i. (tt, (tt, (b i, (e i, tt)))))
+    (passed-tells x y (p.0 ∙ sym q.0), λ i. (tt, (b i, (e i, tt))))
 
 pub heights-determined : Determined heights.Kinds.ps heights.Kinds.r heights.Reads.Pre heights.Reads.Post
 heights-determined κs a pre x y v w p q = (p ∙ sym q, refl)

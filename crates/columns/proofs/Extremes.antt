@@ -1,35 +1,36 @@
 -- The greatest and the least of some columns' numbers: one number more, and what lies above or below them all.
 -- By induction on the number of columns. `greatest` and `least` use it, and the heights of flashes.
-use mathlib.Core.Path.{◌≡◌, ap}
+use mathlib.Core.Path.{◌≡◌, refl, sym, ap, ap₂, ◌∙◌}
 use mathlib.Core.List.{List}
 use mathlib.Core.Logic.{by_cases}
 use Prim.Native.Nat.{ℕ, zero, suc, ◌+◌, ◌-◌, ◌≤◌, ◌<◌, min, max}
-use native.Mathlib.Decide.{ℕ_discrete}
+use native.Mathlib.Decide.{ℕ_discrete, dec_le}
 use native.Mathlib.Omega.{arith}
-use lib.ListN.{get_or}
+use lib.ListN.{length, get_or, take, drop, length-drop}
+use lib.Seq.{take-suc, get_or-drop}
+use Rattle.std.specs.List.{fold}
+use Rattle.std.proofs.lemmas.List.Sums.{fold_push}
 use Rattle.grid.specs.Limits.{side}
 use Rattle.columns.specs.Columns.{greatest_in, least_in}
 
--- the columns from l up to c, and one more
-one_more : (l c : ℕ) → l ≤ c → (c + 1 - l ≡ suc (c - l)) × (l + (c - l) ≡ c)
-one_more l c h = (omega arith, omega arith)
-
 module _ (numbers : List ℕ) (l : ℕ) where
-  pub greatest-none : (n : ℕ) → n ≡ 0 → 0 ≡ greatest_in numbers l n
+  -- a fold over the numbers of n columns from l on is any function that goes on by one number more
+  folded : (f : ℕ → ℕ → ℕ) (z : ℕ) (F : ℕ → ℕ) → F 0 ≡ z → ((n : ℕ) → F (suc n) ≡ f (F n) (get_or numbers (l + n) 0)) → (n : ℕ) → l + n ≤ length numbers
+      → fold f z (take n (drop l numbers)) ≡ F n
+  folded f z F o s zero h = sym o
+  folded f z F o s (suc n) h =
+      ap (fold f z) (take-suc (drop l numbers) n 0 (omega (arith, length-drop l numbers)))
+      ∙ fold_push f z (take n (drop l numbers)) (get_or (drop l numbers) n 0)
+      ∙ ap₂ f (folded f z F o s n (omega arith)) (get_or-drop l numbers n 0)
+      ∙ sym (s n)
+
+  greatest-folded : (n : ℕ) → l + n ≤ length numbers → fold max 0 (take n (drop l numbers)) ≡ greatest_in numbers l n
   unfolding greatest_in
-  greatest-none n e = rw e
+  greatest-folded = folded max 0 (greatest_in numbers l) refl (λ n. refl)
 
-  pub greatest-next : (c v r : ℕ) → l ≤ c → v ≡ greatest_in numbers l (c - l) → r ≡ max v (get_or numbers c 0) → r ≡ greatest_in numbers l (c + 1 - l)
-  unfolding greatest_in
-  greatest-next c v r h e q = let k = one_more l c h in rw (k.0, k.1, q, e)
-
-  pub least-none : (n : ℕ) → n ≡ 0 → side ≡ least_in numbers l n
+  least-folded : (n : ℕ) → l + n ≤ length numbers → fold min side (take n (drop l numbers)) ≡ least_in numbers l n
   unfolding least_in
-  least-none n e = rw e
-
-  pub least-next : (c v r : ℕ) → l ≤ c → v ≡ least_in numbers l (c - l) → r ≡ min v (get_or numbers c 0) → r ≡ least_in numbers l (c + 1 - l)
-  unfolding least_in
-  least-next c v r h e q = let k = one_more l c h in rw (k.0, k.1, q, e)
+  least-folded = folded min side (least_in numbers l) refl (λ n. refl)
 
   pub least-low : (n : ℕ) → least_in numbers l n ≤ side
   unfolding least_in
@@ -62,3 +63,22 @@ module _ (numbers : List ℕ) (l : ℕ) where
   unfolding least_in
   below-least zero y s h = omega arith
   below-least (suc n) y s h = omega (arith, below-least n y s (λ c u v. h c u (omega arith)), h (l + n) (omega arith) (omega arith))
+
+-- as the code has them: the part of the slice from the first column to before the end, which is empty where the end lies before the first
+module _ (numbers : List ℕ) (first end : ℕ) (inside : end ≤ length numbers) where
+  abbrev pub part : List ℕ
+  part = take (end - min first end) (drop (min first end) numbers)
+
+  pub greatest_part : fold max 0 part ≡ greatest_in numbers first (end - first)
+  unfolding greatest_in
+  greatest_part =
+      by_cases (dec_le first end)
+      (λ h. let e : min first end ≡ first = omega arith in ap (λ l. fold max 0 (take (end - l) (drop l numbers))) e ∙ greatest-folded numbers first (end - first) (omega arith))
+      (λ h. let e : end - min first end ≡ 0 = omega arith in let o : end - first ≡ 0 = omega arith in rw (e, o))
+
+  pub least_part : fold min side part ≡ least_in numbers first (end - first)
+  unfolding least_in
+  least_part =
+      by_cases (dec_le first end)
+      (λ h. let e : min first end ≡ first = omega arith in ap (λ l. fold min side (take (end - l) (drop l numbers))) e ∙ least-folded numbers first (end - first) (omega arith))
+      (λ h. let e : end - min first end ≡ 0 = omega arith in let o : end - first ≡ 0 = omega arith in rw (e, o))

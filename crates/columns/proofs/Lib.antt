@@ -5,4 +5,5 @@ pub mod Whole
 pub mod ColumnCounts
 pub mod ColumnRows
 pub mod Extremes
+pub mod Heights
 pub mod Determined

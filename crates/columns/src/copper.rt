@@ -10,8 +10,8 @@ pub fn heights(width: usize, bottoms: &[u8], ends: &[u8]) -> usize
     ensures { result ≡ heights_to width bottoms.now ends.now }
 {
     let mut n: usize = 0;
-    for c in 0..width {
-        n += (ends[c] - bottoms[c]) as usize;
+    for (bottom, end) in bottoms[..width].iter().zip(&ends[..width]) {
+        n += usize::from(*end - *bottom);
     }
     n
 }

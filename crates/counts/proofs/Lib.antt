@@ -5,7 +5,6 @@ pub mod RowLaws
 pub mod StrikeLaws
 pub mod Turns
 pub mod NotedLaws
-pub mod FoundLaws
 pub mod FinalMarks
-pub mod PlainTurns
+pub mod MarkTurns
 pub mod Determined

@@ -1,6 +1,6 @@
 -- A set row by row, as the table's next ends give it: what a row has still to give, and which rows hold a column.
 -- `enter_row`, `leave_row` and what goes over all rows use it.
-use mathlib.Core.Path.{◌≡◌, refl, sym, ap, ap₂, ◌∙◌}
+use mathlib.Core.Path.{◌≡◌, sym, ap, ap₂, ◌∙◌}
 use mathlib.Core.Bool.{Bool, true, ◌&&◌, and-true}
 use mathlib.Core.List.{List, [], ◌∷◌, ◌++◌, map}
 use mathlib.Core.Logic.{by_cases}
@@ -8,7 +8,7 @@ use mathlib.Core.Option.{none, some}
 use Prim.Native.Nat.{ℕ, zero, suc, ◌+◌, ◌-◌, ◌≤◌, ◌<◌}
 use native.Mathlib.Numerals.{add-one}
 use native.Mathlib.Omega.{arith}
-use native.Mathlib.Decide.{dec_le, dec_lt}
+use native.Mathlib.Decide.{dec_le}
 use Rattle.lists.specs.Lists.{keep, first, gather, from}
 use Rattle.lists.proofs.Truth.{bcase, ocase, never, fails, and_left, and_right}
 use Rattle.lists.proofs.Keep.{keep_same, keep-keep, keep-none, keep_append}
@@ -20,10 +20,9 @@ use Rattle.method.specs.Runs.{Listed}
 use Rattle.method.specs.Strike.{least}
 use Rattle.method.proofs.Lines.{holds-lines, lines_hold}
 use Rattle.method.proofs.Listed.{listed-lines}
-use Rattle.grid.specs.Code.{or_end}
 use Rattle.intervals.specs.Table.{next_end}
 use Rattle.intervals.specs.Counts.{begun_before}
-use Rattle.intervals.proofs.TableRows.{next-before}
+use Rattle.intervals.proofs.TableRows.{next-nowhere}
 use Rattle.intervals.proofs.ColumnRows.{begun-on, least_from, least_start, least-here, least_on}
 use Rattle.counts.specs.Rows.{row_beyond, Holding}
 
@@ -48,27 +47,22 @@ keep-first p a (suc k) {x} e =
     some_of : {x y : ℕ} → some x ≡ some y → x ≡ y
     some_of e = cc
 
--- what a row has beyond line p: the next end, and what it has beyond that; nothing, where there is none
+-- what a row has beyond line p: the next end, and what it has beyond that; nothing, where none ends there
 module _ (n : ℕ) (s : List Span) (l p : ℕ) where
   abbrev ends : ℕ → Bool
   ends r = member (span l r) s
 
-  pub row_next : 0 < next_end n s l p → row_beyond n s l p ≡ span l (next_end n s l p) ∷ row_beyond n s l (next_end n s l p)
+  pub row_next : {x : ℕ} → next_end n s l p ≡ some x → row_beyond n s l p ≡ span l x ∷ row_beyond n s l x
   unfolding next_end row_beyond
-  row_next h =
-      ocase (first ends (from (p + 1) (n - p))) (λ e. absurd (omega (arith, ap (or_end 0) e)))
-      (λ x e.
+  row_next {x} e =
       let k = keep-first ends (p + 1) (n - p) e in
       let w = first-within ends (p + 1) (n - p) e in
       let q : (p + 1 + (n - p)) - (x + 1) ≡ n - x = omega arith in
-      rw e (ap (map (λ r. span l r)) (k.1 ∙ ap (λ m. x ∷ keep ends (from (x + 1) m)) q)))
+      ap (map (λ r. span l r)) (k.1 ∙ ap (λ m. x ∷ keep ends (from (x + 1) m)) q)
 
-  pub row-over : next_end n s l p ≤ 0 → row_beyond n s l p ≡ []
+  pub row_over : next_end n s l p ≡ none → row_beyond n s l p ≡ []
   unfolding next_end row_beyond
-  row-over h =
-      ocase (first ends (from (p + 1) (n - p)))
-      (λ e. ap (map (λ r. span l r)) (keep-none ends (from (p + 1) (n - p)) (λ x m. first-none ends (from (p + 1) (n - p)) e m)))
-      (λ x e. absurd (omega (arith, ap (or_end 0) e, first-within ends (p + 1) (n - p) e)))
+  row_over e = ap (map (λ r. span l r)) (keep-none ends (from (p + 1) (n - p)) (λ x m. first-none ends (from (p + 1) (n - p)) e m))
 
   -- the same in a set that has the same of it
   pub row_same : (s' : List Span) → ((r : ℕ) → p < r → r ≤ n → member (span l r) s ≡ member (span l r) s') → row_beyond n s l p ≡ row_beyond n s' l p
@@ -76,31 +70,6 @@ module _ (n : ℕ) (s : List Span) (l p : ℕ) where
   row_same s' h =
       ap (map (λ r. span l r))
       (keep_same ends (λ r. member (span l r) s') (from (p + 1) (n - p)) (λ r m. let w = from_in (p + 1) (n - p) m in h r (omega arith) (omega arith)))
-
--- the interval of a row that ends at line r, with those that end beyond it; line 0 tells that there is none
-module _ (n : ℕ) (s : List Span) (l : ℕ) where
-  unfoldable pub row_at : ℕ → List Span
-  row_at zero = []
-  row_at (suc r) = span l (suc r) ∷ row_beyond n s l (suc r)
-
-  at_some : (r : ℕ) → 0 < r → row_at r ≡ span l r ∷ row_beyond n s l r
-  unfolding row_at
-  at_some zero h = absurd (omega arith)
-  at_some (suc r) h = refl
-
-  pub at_none : (r : ℕ) → r ≤ 0 → row_at r ≡ []
-  unfolding row_at
-  at_none zero h = refl
-  at_none (suc r) h = absurd (omega arith)
-
-  pub row_from : (p : ℕ) {r : ℕ} → r ≡ next_end n s l p → row_beyond n s l p ≡ row_at r
-  row_from p {r} e =
-      by_cases (dec_lt 0 (next_end n s l p))
-      (λ h. row_next n s l p h ∙ sym (ap row_at e ∙ at_some (next_end n s l p) h))
-      (λ h. row-over n s l p (omega arith) ∙ sym (at_none r (omega arith)))
-
-  pub row_step : (r : ℕ) {r' : ℕ} → 0 < r → r' ≡ next_end n s l r → row_at r ≡ span l r ∷ row_at r'
-  row_step r h e = at_some r h ∙ ap (λ (z : List Span). span l r ∷ z) (row_from r e)
 
 -- the rows from line l on
 module _ (n : ℕ) (s : List Span) where
@@ -192,21 +161,21 @@ module _ (n : ℕ) (s : List Span) (listed : Listed n s) (c : ℕ) (below : c < 
   bare-to (suc l) h =
       let q = bare-to l (omega arith) in
       let b : l < begun_before n c = omega (arith, begun-on n c below) in
-      by_cases (dec_lt 0 (next_end n s l c))
-      (λ k.
-      let e : some i ≡ some (span l (next_end n s l c)) = sym q.0 ∙ least-here n s c l b k in
-      let m : i ≡ span l (next_end n s l c) = cc in
-      absurd (omega (arith, ap (λ (z : Span). z.left) m)))
+      ocase (next_end n s l c)
       (λ k. (
-        ap (least_from n s c) (sym (add-one l)) ∙ sym (least_on n s c l b (omega arith)) ∙ q.0,
+        ap (least_from n s c) (sym (add-one l)) ∙ sym (least_on n s c l b k) ∙ q.0,
         λ j m t.
             let w = holds-lines c j t in
             let v = listed-lines n s listed j m in
             by_cases (dec_le (suc l) j.left) (λ u. u)
             (λ u.
             let z : l ≡ j.left = omega (arith, q.1 j m t) in
-            absurd (never m (ap (λ x. member (span x j.right) s) (sym z) ∙ next-before n s l c j.right (omega arith) v.1 (λ x. omega arith)))),
+            absurd (never m (ap (λ x. member (span x j.right) s) (sym z) ∙ next-nowhere n s l c k j.right (omega arith) v.1))),
       ))
+      (λ x k.
+      let e : some i ≡ some (span l x) = sym q.0 ∙ least-here n s c l b x k in
+      let m : i ≡ span l x = cc in
+      absurd (omega (arith, ap (λ (z : Span). z.left) m)))
 
   pub least-holding : Holding n s i.left c
   least-holding = record { early = early; below = below; none_before = (bare-to i.left (omega arith)).1 }

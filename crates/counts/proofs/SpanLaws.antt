@@ -1,23 +1,22 @@
 -- Lists in a room: none, one more in front, one more behind, and what a moved record leaves. One step of a pass that strikes a column.
--- By the list of numbers that are left, whose head is the next; `next_struck` and what goes over a list use it.
-use mathlib.Core.Path.{◌≡◌, refl, sym, ap, ap₂, subst, ◌∙◌}
+-- By the list of numbers that are left, whose head is the next; what goes over a bag uses it.
+use mathlib.Core.Path.{◌≡◌, refl, sym, ap, ap₂, ◌∙◌}
 use mathlib.Core.Bool.{true, false}
 use mathlib.Core.List.{List, [], ◌∷◌, ◌++◌, map, append_assoc, append-nil}
 use Prim.Native.Nat.{ℕ, suc, ◌+◌, ◌-◌, ◌*◌, ◌≤◌, ◌<◌}
 use native.Mathlib.Omega.{arith}
-use lib.ListN.{length, set, length-map, length-set}
-use lib.Seq.{get_or-set_same, get_or-set_other}
+use Rattle.std.proofs.lemmas.Grind.{common_steps}
+use lib.ListN.{length, set, length-set}
 use Rattle.lists.specs.Lists.{keep, from, up_to}
 use Rattle.lists.proofs.Maps.{map_same}
-use Rattle.lists.proofs.Ranges.{from_in, from-append, length_from, map-append}
+use Rattle.lists.proofs.Ranges.{from_in, from-append, map-append}
 use Rattle.method.specs.Intervals.{Interval as Span, span, holds}
 use Rattle.method.specs.Strike.{strike}
 use Rattle.grid.specs.Limits.{bracket_record}
 use Rattle.grid.specs.Rooms.{written}
 use Rattle.grid.proofs.Writing.{written_next, written-set}
 use Rattle.intervals.specs.Finished.{bracket_bytes}
-use Rattle.counts.specs.Spans.{span_in, spans_in, Moved, Passed}
-use Rattle.counts.specs.declared.marks.Spot.{Spot}
+use Rattle.counts.specs.Spans.{span_in, spans_in, Moved}
 
 module _ (room : List ℕ) where
   pub spans_none : (k n : ℕ) → n ≤ k → spans_in room k n ≡ []
@@ -38,20 +37,6 @@ module _ (room : List ℕ) where
       let f : n - 0 ≡ n = omega arith in
       let g : 0 + n ≡ n = omega arith in
       rw (e, f) (ap (map (span_in room)) (from-append 0 n 1) ∙ map-append (span_in room) (up_to n) (from (0 + n) 1) ∙ ap (λ z. map (span_in room) (up_to n) ++ (span_in room z ∷ [])) g)
-
-  pub spans_split : (k n : ℕ) → k ≤ n → spans_in room 0 n ≡ spans_in room 0 k ++ spans_in room k n
-  unfolding spans_in
-  spans_split k n h =
-      let e : n - 0 ≡ (k - 0) + (n - k) = omega arith in
-      let f : 0 + (k - 0) ≡ k = omega arith in
-      ap (λ m. map (span_in room) (from 0 m)) e
-      ∙ ap (map (span_in room)) (from-append 0 (k - 0) (n - k))
-      ∙ map-append (span_in room) (from 0 (k - 0)) (from (0 + (k - 0)) (n - k))
-      ∙ ap (λ m. map (span_in room) (from 0 (k - 0)) ++ map (span_in room) (from m (n - k))) f
-
-  pub spans_length : (n : ℕ) → length (spans_in room 0 n) ≡ n
-  unfolding spans_in
-  spans_length n = length-map (from 0 (n - 0)) (span_in room) ∙ length_from 0 (n - 0) ∙ omega arith
 
 -- the records from k to n are the same in another room
 pub spans_same : (room room' : List ℕ) (k n : ℕ) → ((x : ℕ) → k ≤ x → x < n → span_in room' x ≡ span_in room x) → spans_in room' k n ≡ spans_in room k n
@@ -94,74 +79,68 @@ strike-none c = refl
 pub behind : (xs : List Span) (i : Span) (ys : List Span) → xs ++ (i ∷ ys) ≡ (xs ++ (i ∷ [])) ++ ys
 behind xs i ys = sym (append_assoc xs (i ∷ []) ys)
 
--- a pass that strikes column c, when it has read k intervals and kept j
-module _ {c n k j : ℕ} {room room₁ : List ℕ} {from : Spot} (P : Passed c n room from room₁ (record { read = k; kept = j }) (λ is. is)) where
+-- a pass that strikes column c from n intervals, when it has read k of them and kept j
+pub record Passed (c n : ℕ) (room : List ℕ) (k j : ℕ) (room' : List ℕ) : Type 0 where
+  pub ordered : j ≤ k
+  pub as_long : length room' ≡ length room
+  pub kept : strike c (spans_in room 0 n) ≡ spans_in room' 0 j ++ strike c (spans_in room' k n)
+
+pub pass_start : (c n : ℕ) (room : List ℕ) → Passed c n room 0 0 room
+pass_start c n room =
+    record {
+      ordered = omega arith;
+      as_long = refl;
+      kept = ap (λ (z : List Span). z ++ strike c (spans_in room 0 n)) (sym (spans_none room 0 0 (omega arith)));
+    }
+
+module _ {c n k j : ℕ} {room room₁ : List ℕ} (P : Passed c n room k j room₁) where
   module _ (i : Span) (left : k < n) (here : i ≡ span_in room₁ k) where
     next-is : spans_in room₁ k n ≡ i ∷ spans_in room₁ (k + 1) n
     next-is = spans_next room₁ k n left ∙ ap (λ z. z ∷ spans_in room₁ (k + 1) n) (sym here)
 
-    pub pass_hit : holds c i ≡ true → Passed c n room from room₁ (record { read = k + 1; kept = j }) (λ is. i ∷ is)
-    pass_hit t =
-        record {
-          ordered = omega (arith, P.ordered);
-          within = omega arith;
-          onward = omega (arith, P.onward);
-          as_long = P.as_long;
-          kept = P.kept ∙ ap (λ (z : List Span). spans_in room₁ 0 j ++ strike c z) next-is ∙ ap (λ (z : List Span). spans_in room₁ 0 j ++ z) (strike-hit c i (spans_in room₁ (k + 1) n) t);
-          struck = P.struck ∙ ap (keep (holds c)) next-is ∙ keep-hit c i (spans_in room₁ (k + 1) n) t;
-        }
+    pub pass_hit : holds c i ≡ true
+        → Passed c n room (k + 1) j room₁ × (keep (holds c) (spans_in room₁ k n) ≡ i ∷ keep (holds c) (spans_in room₁ (k + 1) n))
+    pass_hit t = (
+      record {
+        ordered = omega (arith, P.ordered);
+        as_long = P.as_long;
+        kept =
+            P.kept
+            ∙ ap (λ (z : List Span). spans_in room₁ 0 j ++ strike c z) next-is
+            ∙ ap (λ (z : List Span). spans_in room₁ 0 j ++ z) (strike-hit c i (spans_in room₁ (k + 1) n) t);
+      },
+      ap (keep (holds c)) next-is ∙ keep-hit c i (spans_in room₁ (k + 1) n) t,
+    )
 
-    pub pass_miss : holds c i ≡ false → {room₂ : List ℕ} → Moved room₁ k j room₂ → Passed c n room from room₂ (record { read = k + 1; kept = j + 1 }) (λ is. is)
+    pub pass_miss : holds c i ≡ false → {room₂ : List ℕ} → Moved room₁ k j room₂
+        → Passed c n room (k + 1) (j + 1) room₂ × (keep (holds c) (spans_in room₁ k n) ≡ keep (holds c) (spans_in room₂ (k + 1) n))
     pass_miss t {room₂} M =
         let early = P.ordered in
-        let rest = moved-left M early n in
-        record {
-          ordered = omega arith;
-          within = omega arith;
-          onward = omega (arith, P.onward);
-          as_long = M.as_long ∙ P.as_long;
-          kept =
-              P.kept
-              ∙ ap (λ (z : List Span). spans_in room₁ 0 j ++ strike c z) next-is
-              ∙ ap (λ (z : List Span). spans_in room₁ 0 j ++ z) (strike_miss c i (spans_in room₁ (k + 1) n) t)
-              ∙ behind (spans_in room₁ 0 j) i (strike c (spans_in room₁ (k + 1) n))
-              ∙ ap₂ (λ (x : Span) (y : List Span). (spans_in room₁ 0 j ++ (x ∷ [])) ++ strike c y) here (sym rest)
-              ∙ ap (λ (z : List Span). z ++ strike c (spans_in room₂ (k + 1) n)) (sym (moved-kept M early));
-          struck = P.struck ∙ ap (keep (holds c)) next-is ∙ keep_miss c i (spans_in room₁ (k + 1) n) t ∙ ap (keep (holds c)) (sym rest);
-        }
+        let rest = moved-left M early n in (
+          record {
+            ordered = omega arith;
+            as_long = M.as_long ∙ P.as_long;
+            kept =
+                P.kept
+                ∙ ap (λ (z : List Span). spans_in room₁ 0 j ++ strike c z) next-is
+                ∙ ap (λ (z : List Span). spans_in room₁ 0 j ++ z) (strike_miss c i (spans_in room₁ (k + 1) n) t)
+                ∙ behind (spans_in room₁ 0 j) i (strike c (spans_in room₁ (k + 1) n))
+                ∙ ap₂ (λ (x : Span) (y : List Span). (spans_in room₁ 0 j ++ (x ∷ [])) ++ strike c y) here (sym rest)
+                ∙ ap (λ (z : List Span). z ++ strike c (spans_in room₂ (k + 1) n)) (sym (moved-kept M early));
+          },
+          ap (keep (holds c)) next-is ∙ keep_miss c i (spans_in room₁ (k + 1) n) t ∙ ap (keep (holds c)) (sym rest),
+        )
 
-  pub pass_over : n ≤ k → Passed c n room from room₁ (record { read = n; kept = j }) (λ is. is)
-  pass_over h = let w = P.within in let e : k ≡ n = omega arith in subst (λ z. Passed c n room from room₁ (record { read = z; kept = j }) (λ is. is)) e P
-
--- two parts of a pass, one after the other
-pub pass_then : {c n : ℕ} {room room₁ room₂ : List ℕ} {from spot spot₂ : Spot} {all : List Span} {hits : List Span → List Span}
-    → Passed c n room from room₁ spot (λ is. all) → Passed c n room₁ spot room₂ spot₂ hits → Passed c n room from room₂ spot₂ (λ is. all)
-pass_then P Q =
-    record {
-      ordered = Q.ordered;
-      within = Q.within;
-      onward = omega (arith, P.onward, Q.onward);
-      as_long = Q.as_long ∙ P.as_long;
-      kept = P.kept ∙ Q.kept;
-      struck = P.struck;
-    }
-
--- a pass that is over
-module _ {c n j : ℕ} {room room₁ : List ℕ} {from : Spot} {hits : List Span → List Span} (P : Passed c n room from room₁ (record { read = n; kept = j }) hits) where
-  over_list : spans_in room 0 from.kept ++ strike c (spans_in room from.read n) ≡ spans_in room₁ 0 j
-  over_list =
-      P.kept
-      ∙ ap (λ (z : List Span). spans_in room₁ 0 j ++ strike c z) (spans_none room₁ n n (omega arith))
-      ∙ ap (λ (z : List Span). spans_in room₁ 0 j ++ z) (strike-none c)
-      ∙ append-nil (spans_in room₁ 0 j)
-
--- from its start on
-pub over-all : {c n j : ℕ} {room room₁ : List ℕ} {hits : List Span → List Span} → Passed c n room (record { read = 0; kept = 0 }) room₁ (record { read = n; kept = j }) hits
-    → strike c (spans_in room 0 n) ≡ spans_in room₁ 0 j
-over-all {c} {n} {room = room} P = ap (λ (z : List Span). z ++ strike c (spans_in room 0 n)) (sym (spans_none room 0 0 (omega arith))) ∙ over_list P
-
-pub none_struck : {c n j : ℕ} {room room₁ : List ℕ} {from : Spot} → Passed c n room from room₁ (record { read = n; kept = j }) (λ is. is) → keep (holds c) (spans_in room from.read n) ≡ []
-none_struck {c} {n} {room₁ = room₁} P = P.struck ∙ ap (keep (holds c)) (spans_none room₁ n n (omega arith))
+  -- all are read
+  pub pass_over : n ≤ k → (spans_in room₁ 0 j ≡ strike c (spans_in room 0 n)) × (keep (holds c) (spans_in room₁ k n) ≡ [])
+  pass_over h = (
+    sym
+        (P.kept
+        ∙ ap (λ (z : List Span). spans_in room₁ 0 j ++ strike c z) (spans_none room₁ k n h)
+        ∙ ap (λ (z : List Span). spans_in room₁ 0 j ++ z) (strike-none c)
+        ∙ append-nil (spans_in room₁ 0 j)),
+    ap (keep (holds c)) (spans_none room₁ k n h),
+  )
 
 -- a record written anew, and the others
 module _ (room : List ℕ) (c : ℕ) (i : Span) (fits : c * bracket_record + bracket_record ≤ length room) where
@@ -173,17 +152,8 @@ module _ (room : List ℕ) (c : ℕ) (i : Span) (fits : c * bracket_record + bra
 
   pub written-here : span_in (written room (c * bracket_record) (bracket_bytes i)) c ≡ i
   written-here =
-      let first = set room (c * bracket_record) i.left in
       let long = length-set room (c * bracket_record) i.left in
-      ap (λ (z : List ℕ). span_in z c) two_bytes
-      ∙ ap₂ span
-      (get_or-set_other first (c * bracket_record + 1) (c * bracket_record) i.right 0 (λ e. omega arith) ∙ get_or-set_same room (c * bracket_record) i.left 0 (omega arith))
-      (get_or-set_same first (c * bracket_record + 1) i.right 0 (omega arith))
+      rw two_bytes (ap₂ span (grind (arith, common_steps)) (grind (arith, common_steps)))
 
   pub written_elsewhere : (x : ℕ) → (x ≡ c → ⊥) → span_in (written room (c * bracket_record) (bracket_bytes i)) x ≡ span_in room x
-  written_elsewhere x d =
-      let first = set room (c * bracket_record) i.left in
-      ap (λ (z : List ℕ). span_in z x) two_bytes
-      ∙ ap₂ span
-      (get_or-set_other first (c * bracket_record + 1) (x * bracket_record) i.right 0 (λ e. omega arith) ∙ get_or-set_other room (c * bracket_record) (x * bracket_record) i.left 0 (λ e. d (omega arith)))
-      (get_or-set_other first (c * bracket_record + 1) (x * bracket_record + 1) i.right 0 (λ e. d (omega arith)) ∙ get_or-set_other room (c * bracket_record) (x * bracket_record + 1) i.left 0 (λ e. omega arith))
+  written_elsewhere x d = rw two_bytes (ap₂ span (grind (arith, common_steps)) (grind (arith, common_steps)))

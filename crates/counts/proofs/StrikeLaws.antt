@@ -14,9 +14,7 @@ use Rattle.method.specs.Strike.{strike}
 use Rattle.method.specs.Runs.{Listed}
 use Rattle.method.proofs.Lines.{lines_hold, lines-proper}
 use Rattle.method.proofs.Listed.{member-select, select-same}
-use Rattle.intervals.specs.Table.{set_of, table_of, Tabled, cut_at}
-use Rattle.intervals.proofs.TableLaws.{set-listed, left_as}
-use Rattle.intervals.proofs.ColumnRows.{begun-on, struck_to, struck_listed, struck_next, struck_all}
+use Rattle.intervals.proofs.ColumnRows.{begun-on, struck_to, struck_all}
 use Rattle.counts.specs.Rows.{row_beyond, Holding}
 use Rattle.counts.specs.Tally.{Changed, CanChange}
 use Rattle.counts.proofs.RowLaws.{row_same, hits_from, hits_start, hits_next, hits_over}
@@ -24,7 +22,7 @@ use Rattle.counts.proofs.TallyLaws.{Going, going_start, going_over, next_can, go
 
 module _ (n : ℕ) (s : List Span) (c l : ℕ) where
   -- where no interval that holds the column begins before line l, striking the rows before it changes nothing
-  struck_bare : Listed n s → Holding n s l c → s ≡ struck_to n s c l
+  pub struck_bare : Listed n s → Holding n s l c → s ≡ struck_to n s c l
   unfolding struck_to
   struck_bare listed H =
       listed
@@ -48,54 +46,41 @@ module _ (n : ℕ) (s : List Span) (c l : ℕ) where
       member-select n (λ j. member j s && not (ltb j.left l && ltb c j.right)) (span l r)
       ∙ rw (lines-proper (span l r) (omega arith), le-leb r n v, le-ltb l l (omega arith)) (and-true (member (span l r) s))
 
-pub record Striking (n c : ℕ) (set₀ begins₀ ends₀ : List ℕ) (l : ℕ) (set begins ends : List ℕ) : Type 0 where
+-- rows of column c's intervals, of which those before line l have gone from the counts
+pub record Striking (n c : ℕ) (s : List Span) (begins₀ ends₀ : List ℕ) (l : ℕ) (begins ends : List ℕ) : Type 0 where
   pub early : l ≤ c + 1
   pub below : c < n
-  pub tabled : Tabled n set
-  pub so_far : set_of n set ≡ struck_to n (set_of n set₀) c l
-  pub going : Going false begins₀ ends₀ (keep (holds c) (set_of n set₀)) begins ends (hits_from n (set_of n set₀) c l)
+  pub going : Going false begins₀ ends₀ (keep (holds c) s) begins ends (hits_from n s c l)
 
-pub striking_start : {n c l : ℕ} {set begins ends : List ℕ} → Tabled n set → Holding n (set_of n set) l c → CanChange false begins ends (keep (holds c) (set_of n set))
-    → Striking n c set begins ends l set begins ends
-striking_start {n} {c} {l} {set} {begins} {ends} T H C =
-    let s = set_of n set in
+pub striking_start : {n c l : ℕ} {s : List Span} {begins ends : List ℕ} → Listed n s → Holding n s l c → CanChange false begins ends (keep (holds c) s)
+    → Striking n c s begins ends l begins ends
+striking_start {n} {c} {l} {s} {begins} {ends} listed H C =
     record {
       early = omega (arith, H.early);
       below = H.below;
-      tabled = T;
-      so_far = struck_bare n s c l (set-listed n set) H;
-      going = subst (Going false begins ends (keep (holds c) s) begins ends) (hits_start n s c (set-listed n set) l H) (going_start false begins ends (keep (holds c) s) C);
+      going = subst (Going false begins ends (keep (holds c) s) begins ends) (hits_start n s c listed l H) (going_start false begins ends (keep (holds c) s) C);
     }
 
-module _ {n c l : ℕ} {set₀ begins₀ ends₀ set begins ends : List ℕ} (S : Striking n c set₀ begins₀ ends₀ l set begins ends) where
-  abbrev s : List Span
-  s = set_of n set₀
+module _ {n c l : ℕ} {s : List Span} {begins₀ ends₀ begins ends : List ℕ} (S : Striking n c s begins₀ ends₀ l begins ends) where
+  -- the set so far
+  module _ (h : l ≤ c) {m : ℕ} {s' : List Span} (p : m ≡ n) (so : s' ≡ struck_to n s c l) where
+    next_hits : hits_from n s c l ≡ row_beyond m s' l c ++ hits_from n s c (l + 1)
+    next_hits =
+        let row : row_beyond m s' l c ≡ row_beyond n (struck_to n s c l) l c = (λ i. row_beyond (p i) (so i) l c) in
+        hits_next n s c l h S.below ∙ ap (λ z. z ++ hits_from n s c (l + 1)) (sym (row ∙ row_same n (struck_to n s c l) l c s (struck_row n s c l h)))
 
-  module _ (h : l ≤ c) where
-    row_is : row_beyond n (set_of n set) l c ≡ row_beyond n s l c
-    row_is = ap (λ z. row_beyond n z l c) S.so_far ∙ row_same n (struck_to n s c l) l c s (struck_row n s c l h)
+    pub row_can : CanChange false begins ends (row_beyond m s' l c)
+    row_can = next_can S.going (row_beyond m s' l c) (hits_from n s c (l + 1)) next_hits
 
-    next_hits : hits_from n s c l ≡ row_beyond n (set_of n set) l c ++ hits_from n s c (l + 1)
-    next_hits = hits_next n s c l h S.below ∙ ap (λ z. z ++ hits_from n s c (l + 1)) (sym row_is)
-
-    pub row_can : CanChange false begins ends (row_beyond n (set_of n set) l c)
-    row_can = next_can S.going (row_beyond n (set_of n set) l c) (hits_from n s c (l + 1)) next_hits
-
-    pub striking_next : {set' begins' ends' : List ℕ} → Changed false begins ends (row_beyond n (set_of n set) l c) begins' ends' → set' ≡ table_of (cut_at n l c (set_of n set))
-        → Striking n c set₀ begins₀ ends₀ (l + 1) set' begins' ends'
-    striking_next C e =
-        let left = left_as n (struck_to n s c (l + 1)) S.tabled.fits (struck_listed n s c (l + 1)) (e ∙ ap table_of (ap (cut_at n l c) S.so_far ∙ struck_next n s c l)) in
+    pub striking_next : {begins' ends' : List ℕ} → Changed false begins ends (row_beyond m s' l c) begins' ends' → Striking n c s begins₀ ends₀ (l + 1) begins' ends'
+    striking_next C =
         record {
           early = omega arith;
           below = S.below;
-          tabled = left.0;
-          so_far = left.1;
-          going = going_next S.going (row_beyond n (set_of n set) l c) (hits_from n s c (l + 1)) next_hits C;
+          going = going_next S.going (row_beyond m s' l c) (hits_from n s c (l + 1)) next_hits C;
         }
 
-  pub striking_over : c < l → (set ≡ table_of (strike c s)) × Changed false begins₀ ends₀ (keep (holds c) s) begins ends
-  striking_over h =
-      let e : l ≡ c + 1 = omega (arith, S.early) in (
-        S.tabled.whole ∙ ap table_of (S.so_far ∙ ap (struck_to n s c) (e ∙ sym (begun-on n c S.below)) ∙ struck_all n s c (set-listed n set₀)),
-        going_over S.going (hits_over n s c l h),
-      )
+  pub striking_over : Listed n s → c < l → (struck_to n s c l ≡ strike c s) × Changed false begins₀ ends₀ (keep (holds c) s) begins ends
+  striking_over listed h =
+      let e : l ≡ c + 1 = omega (arith, S.early) in
+      (ap (struck_to n s c) (e ∙ sym (begun-on n c S.below)) ∙ struck_all n s c listed, going_over S.going (hits_over n s c l h))

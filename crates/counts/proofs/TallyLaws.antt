@@ -1,15 +1,12 @@
 -- Counts by line that change by several intervals, one after the other. Each count by cases on the way it goes; `enter`, `leave` and the loops around them use it.
-use mathlib.Core.Path.{◌≡◌, refl, sym, ap, subst, subst⁻¹, ◌∙◌}
+use mathlib.Core.Path.{◌≡◌, refl, sym, ap, subst, ◌∙◌}
 use mathlib.Core.Bool.{Bool, true, false, cond, ◌||◌, or-true, false≢true}
 use mathlib.Core.List.{List, [], ◌∷◌, ◌++◌}
-use mathlib.Core.Logic.{by_cases}
 use Prim.Native.Nat.{ℕ, ◌+◌, ◌<◌, min}
 use native.Mathlib.Omega.{arith}
-use native.Mathlib.Decide.{ℕ_discrete}
 use lib.Dec.{eqb}
-use lib.ListN.{length, get_or, set, length-set}
-use lib.Seq.{get_or-set_same, get_or-set_other}
-use borrow.Author.Tests.{eq-eqb, ne_eqb}
+use lib.ListN.{length, get_or}
+use borrow.Author.Tests.{eq-eqb}
 use Rattle.lists.proofs.Counting.{count-append}
 use Rattle.lists.proofs.Members.{any_append}
 use Rattle.method.specs.Intervals.{Interval as Span, same, member}
@@ -74,20 +71,6 @@ module _ (more : Bool) (held : List ℕ) (l : ℕ) (f : ℕ → ℕ) (one : (x :
   pub one-fits : l < length held → AllFit more held f → Fits more (get_or held l 0) 1
   one-fits h F = subst (Fits more (get_or held l 0)) here (F l h)
 
-  pub one-counted : (r : ℕ) → l < length held → Tallied more (get_or held l 0) 1 r → Counted more held f (set held l r)
-  one-counted r h T =
-      record {
-        as_long = length-set held l r;
-        each = λ x u.
-            by_cases (ℕ_discrete x l)
-            (λ e.
-            subst⁻¹ (λ y. Tallied more (get_or held y 0) (f y) (get_or (set held l r) y 0)) e
-            (subst⁻¹ (Tallied more (get_or held l 0) (f l)) (get_or-set_same held l r 0 h) (tallied_as more (get_or held l 0) 1 (f l) r (sym here) T)))
-            (λ e.
-            subst⁻¹ (Tallied more (get_or held x 0) (f x)) (get_or-set_other held l x r 0 e)
-            (tallied_as more (get_or held x 0) 0 (f x) (get_or held x 0) (sym (one x ∙ rw (ne_eqb l x (λ q. e (sym q))))) (tallied_none more (get_or held x 0))));
-      }
-
 -- one interval
 module _ (i : Span) where
   pub one-begins : (x : ℕ) → beginning (i ∷ []) x ≡ cond (eqb i.left x) 1 0
@@ -97,22 +80,14 @@ module _ (i : Span) where
   one-ends x = omega arith
 
   module _ (more : Bool) (begins ends : List ℕ) (C : CanChange more begins ends (i ∷ [])) where
-    pub one-short : (i.left < length begins) × (i.right < length ends)
-    one-short = C.short i (rw (path_same i i refl))
+    pub one_short : (i.left < length begins) × (i.right < length ends)
+    one_short = C.short i (rw (path_same i i refl))
 
     pub begin_fits : Fits more (get_or begins i.left 0) 1
-    begin_fits = one-fits more begins i.left (beginning (i ∷ [])) one-begins one-short.0 C.begun
+    begin_fits = one-fits more begins i.left (beginning (i ∷ [])) one-begins one_short.0 C.begun
 
     pub end_fits : Fits more (get_or ends i.right 0) 1
-    end_fits = one-fits more ends i.right (ending (i ∷ [])) one-ends one-short.1 C.ended
-
-    pub one-changed : (x y : ℕ) → Tallied more (get_or begins i.left 0) 1 x → Tallied more (get_or ends i.right 0) 1 y
-        → Changed more begins ends (i ∷ []) (set begins i.left x) (set ends i.right y)
-    one-changed x y S T =
-        record {
-          begun = one-counted more begins i.left (beginning (i ∷ [])) one-begins x one-short.0 S;
-          ended = one-counted more ends i.right (ending (i ∷ [])) one-ends y one-short.1 T;
-        }
+    end_fits = one-fits more ends i.right (ending (i ∷ [])) one-ends one_short.1 C.ended
 
 -- the least line at which one of a list begins, while it is gone through
 pub record Seeking (l₀ : ℕ) (all : List Span) (l : ℕ) (rest : List Span) : Type 0 where
@@ -124,6 +99,9 @@ seeking_start l all = record { on = λ f S. S }
 module _ {l₀ l : ℕ} {all rest : List Span} (S : Seeking l₀ all l rest) where
   pub seeking_over : rest ≡ [] → Since l₀ all l
   seeking_over e = S.on l (record { given = omega arith; begun = λ j m. absurd (false≢true (sym (ap (member j) e) ∙ m)) })
+
+  pub seeking_as : {rest' : List Span} → rest ≡ rest' → Seeking l₀ all l rest'
+  seeking_as e = subst (Seeking l₀ all l) e S
 
   pub seeking_next : (i : Span) (rest' : List Span) → rest ≡ i ∷ rest' → {r : ℕ} → r ≡ min l i.left → Seeking l₀ all r rest'
   seeking_next i rest' e {r} q =
@@ -157,6 +135,10 @@ module _ {more : Bool} {begins₀ ends₀ begins ends : List ℕ} {all rest : Li
         begun = counted_none more begins (beginning rest) (λ x. ap (λ s. beginning s x) e);
         ended = counted_none more ends (ending rest) (λ x. ap (λ s. ending s x) e);
       })
+
+  -- the same rest
+  pub going_as : {rest' : List Span} → rest ≡ rest' → Going more begins₀ ends₀ all begins ends rest'
+  going_as e = subst (Going more begins₀ ends₀ all begins ends) e G
 
   -- the next part of the list
   module _ (part rest' : List Span) (e : rest ≡ part ++ rest') where

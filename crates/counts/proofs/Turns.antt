@@ -1,42 +1,40 @@
 -- A turn of the marks' rule by counts: set s and bag b, and counts by line that give for each column its count in s less that in b, which is its count in the final set.
--- Striking a column strikes both, and the counts of the lines where they began and ended. `note_mark` and `note_marks` use it.
-use mathlib.Core.Path.{◌≡◌, refl, sym, ap, ap₂, subst⁻¹, ◌∙◌}
+-- Striking a column strikes both, and the counts of the lines where they began and ended. `note_mark` uses it.
+use mathlib.Core.Path.{◌≡◌, refl, sym, ap, subst⁻¹, ◌∙◌}
 use mathlib.Core.Bool.{Bool, true, false}
 use mathlib.Core.List.{List, [], ◌∷◌}
-use mathlib.Core.Option.{none, some}
-use Prim.Native.Nat.{ℕ, suc, ◌+◌, ◌-◌, ◌*◌, ◌^◌, ◌≤◌, ◌<◌}
+use mathlib.Core.Option.{some}
+use Prim.Native.Nat.{ℕ, suc, ◌+◌, ◌-◌, ◌^◌, ◌≤◌, ◌<◌}
 use native.Mathlib.Omega.{arith}
 use lib.Dec.{eqb}
 use lib.ListN.{length, get_or}
 use borrow.Author.Tests.{ne_eqb}
 use Rattle.lists.specs.Lists.{count, first, keep, from, up_to}
-use Rattle.lists.proofs.Truth.{bcase, ocase, missing, and_left, and_right}
-use Rattle.lists.proofs.Keep.{count-zero, count_positive, count-any, count-rest}
+use Rattle.lists.proofs.Truth.{bcase, and_left, and_right}
+use Rattle.lists.proofs.Keep.{count-zero, count_positive, count-any}
 use Rattle.lists.proofs.Members.{first-same, none_any}
 use Rattle.lists.proofs.Ranges.{from_in}
 use Rattle.method.specs.Intervals.{Interval as Span, same, holds, member}
 use Rattle.method.specs.Final.{final, trace}
 use Rattle.method.specs.Runs.{Listed, SameBag}
-use Rattle.method.specs.Strike.{held_once, least, strike, marked}
+use Rattle.method.specs.Strike.{held_once, least, strike}
 use Rattle.method.proofs.Lines.{holds-lines}
-use Rattle.method.proofs.Listed.{listed-lines, strike-listed, member_in, in_member, member-keep}
-use Rattle.method.proofs.Once.{held_once-below, held_once-least, never-once-empty}
-use Rattle.method.proofs.Marks.{least-found, least-holds, strike-member, strike-shorter, marked_step, marked_empty, marked-length, final-short}
+use Rattle.method.proofs.Listed.{listed-lines, member_in, in_member, member-keep}
+use Rattle.method.proofs.Once.{held_once-below, held_once-least}
+use Rattle.method.proofs.Marks.{least-holds, strike-member}
 use Rattle.method.proofs.Trace.{trace-lines, trace-length}
 use Rattle.method.proofs.Bags.{bag_length}
 use Rattle.method.proofs.ByCounts.{bag_count, bag_strike}
-use Rattle.grid.specs.Limits.{side, bracket_record}
-use Rattle.grid.specs.Rooms.{written}
-use Rattle.grid.specs.Code.{or_end}
-use Rattle.grid.proofs.Writing.{length-written}
-use Rattle.intervals.specs.Finished.{bracket_bytes}
-use Rattle.intervals.specs.Table.{set_of, table_of, Tabled, NoneBegins}
-use Rattle.intervals.proofs.TableLaws.{set-listed, left_as}
+use Rattle.grid.specs.Limits.{side}
+use Rattle.grid.proofs.Edges.{number}
+use Rattle.intervals.specs.Table.{table_of, NoneBegins}
+use Rattle.intervals.specs.Spans.{spans}
+use Rattle.intervals.specs.declared.Table.{Table}
+use Rattle.intervals.proofs.TableLaws.{set-listed}
 use Rattle.intervals.proofs.SetSizes.{set_bound}
 use Rattle.counts.specs.Rows.{Holding}
-use Rattle.counts.specs.Spans.{spans_in, Listing}
-use Rattle.counts.specs.Marks.{noted_for, Tallies, Turned}
-use Rattle.counts.proofs.SpanLaws.{spans_length}
+use Rattle.counts.specs.Marks.{next_of, Tallies}
+use Rattle.counts.proofs.MarkTurns.{struck_of}
 use Rattle.counts.specs.Tally.{beginning, ending, Changed, CanChange, Lined, held_to, is_held_in, Steps, Since, Onward}
 use Rattle.counts.proofs.RowLaws.{least-holding}
 use Rattle.counts.proofs.HeldLaws.{held_none, held-is, has-steps, held_same, steps_fewer, skip_none}
@@ -78,12 +76,8 @@ module _ (n : ℕ) (s b : List Span) (listed : Listed n s) (bag : SameBag b (tra
         (λ x m. let r = from_in 0 n m in ap (λ k. eqb k 1) (held-final x (omega arith)))
 
 -- what is struck of a list is of the list
-struck_of : (c : ℕ) (s : List Span) (i : Span) → member i (keep (holds c) s) ≡ true → member i s ≡ true
-struck_of c s i m = and_left (member i s) (holds c i) (sym (member-keep i (holds c) s) ∙ m)
-
-length_struck : (c : ℕ) (s : List Span) → length (strike c s) ≤ length s
-unfolding strike
-length_struck c s = omega (arith, count-rest (holds c) s)
+of_struck : (c : ℕ) (s : List Span) (i : Span) → member i (keep (holds c) s) ≡ true → member i s ≡ true
+of_struck c s i m = and_left (member i s) (holds c i) (sym (member-keep i (holds c) s) ∙ m)
 
 -- before a line at which none of a list has begun
 quiet : (s : List Span) (f : ℕ) → ((j : Span) → member j s ≡ true → (f ≤ j.left) × (j.left < j.right)) → (x : ℕ) → x < f → (beginning s x ≡ 0) × (ending s x ≡ 0)
@@ -97,7 +91,7 @@ module _ {s b : List Span} {rises falls : List ℕ} (L : Lined s b rises falls) 
   pub set_can : ((i : Span) → member i s ≡ true → (i.left < length rises) × (i.right < length falls)) → CanChange false rises falls (keep (holds c) s)
   set_can h =
       record {
-        short = λ i m. h i (struck_of c s i m);
+        short = λ i m. h i (of_struck c s i m);
         begun = λ x u. omega (arith, L.up x u, count-split c (λ i. eqb i.left x) s);
         ended = λ x u. omega (arith, L.down x u, count-split c (λ i. eqb i.right x) s);
       }
@@ -117,63 +111,42 @@ module _ {s b : List Span} {rises falls : List ℕ} (L : Lined s b rises falls) 
 pub exchanged : {s b : List Span} {rises falls : List ℕ} → Lined s b rises falls → Lined b s falls rises
 exchanged L = record { up = λ x u. omega (arith, L.down x u); down = λ x u. omega (arith, L.up x u) }
 
-module _ {n : ℕ} {set bag rises falls : List ℕ} {bags : ℕ} (T : Tallies n set bag bags rises falls) where
-  abbrev s : List Span
-  s = set_of n set
+module _ {t : Table} {b : List Span} {rises falls : List ℕ} (T : Tallies t b rises falls) where
+  abbrev n : ℕ
+  n = t.last.0
 
-  abbrev b : List Span
-  b = spans_in bag 0 bags
+  abbrev s : List Span
+  s = spans t
 
   listed : Listed n s
-  listed = set-listed n set
+  listed = set-listed n t.rows
+
+  narrow : n ≤ side
+  narrow = t.tabled.fits
 
   wide : (n ≤ length rises) × (n ≤ length falls)
   wide = (omega (arith, T.rise-wide), omega (arith, T.fall-wide))
 
   pub counts_step : Steps n rises falls
-  counts_step = steps n s b listed T.brackets T.lined wide (omega (arith, set_bound n set T.tabled.fits))
+  counts_step = steps n s b listed T.brackets T.lined wide (omega (arith, set_bound n t.rows narrow))
 
   held_of : (x : ℕ) → x < n → is_held_in rises falls x ≡ count (holds x) (final n s)
   held_of = held-final n s b listed T.brackets T.lined wide
 
-  -- the column that the counts give is the rule's, and the end where nothing is left
-  module _ {l h c : ℕ} (O : Onward n rises falls l h) (e : c ≡ or_end n (first (λ x. eqb (is_held_in rises falls x) 1) (from l (n - l)))) where
-    is_rule : c ≡ or_end n (held_once n (final n s))
-    is_rule =
-        e
-        ∙ ap (or_end n)
-        (sym (skip_none (λ x. eqb (is_held_in rises falls x) 1) n l O.within (λ x u. ne_eqb (is_held_in rises falls x) 1 (O.none-once x u)))
-        ∙ once-counted n s b listed T.brackets T.lined wide)
-
-    pub column-is : c < n → held_once n (final n s) ≡ some c
-    column-is h =
-        ocase (held_once n (final n s)) (λ o. absurd (omega (arith, is_rule, ap (or_end n) o)))
-        (λ x o. o ∙ ap some (sym (is_rule ∙ ap (or_end n) o)))
-
-    pub nothing_left : n ≤ c → s ≡ []
-    nothing_left h =
-        ocase (held_once n (final n s)) (λ o. never-once-empty n s listed o)
-        (λ x o. absurd (omega (arith, is_rule, ap (or_end n) o, held_once-below n (final n s) o)))
+  -- the column that the counts give is the rule's
+  pub is_rule : {l h : ℕ} → Onward n rises falls l h → first (λ x. eqb (is_held_in rises falls x) 1) (from l (n - l)) ≡ held_once n (final n s)
+  is_rule {l} O =
+      sym (skip_none (λ x. eqb (is_held_in rises falls x) 1) n l O.within (λ x u. ne_eqb (is_held_in rises falls x) 1 (O.none-once x u)))
+      ∙ once-counted n s b listed T.brackets T.lined wide
 
   -- a strike only takes intervals away
-  pub still : (c : ℕ) {set' : List ℕ} → set' ≡ table_of (strike c s) → {p : ℕ} → NoneBegins s p → NoneBegins (set_of n set') p
-  still c S since i m =
-      let struck = left_as n (strike c s) T.tabled.fits (strike-listed n s listed c) S in
-      since i (strike-member c s i (sym (ap (member i) struck.1) ∙ m)).0
+  pub still : (c : ℕ) (t' : Table) → t'.last ≡ t.last → t'.rows ≡ table_of (strike c s) → {p : ℕ} → NoneBegins s p → NoneBegins (spans t') p
+  still c t' l S since i m = since i (strike-member c s i (sym (ap (member i) (struck_of t c t' l S)) ∙ m)).0
 
-  module _ {c : ℕ} (once : held_once n (final n s) ≡ some c) where
-    pub never-none : least c s ≡ none → ⊥
-    never-none e = missing e (least-found n s listed once).1
-
+  module _ {c : ℕ} (once : next_of t ≡ some c) where
     module _ {i : Span} (o : least c s ≡ some i) where
       pub below : c < n
       below = held_once-below n (final n s) once
-
-      pub mark-fits : (m : ℕ) → n * bracket_record ≤ m → (i.left < 2 ^ 8) × (i.right < 2 ^ 8) × (c * bracket_record + bracket_record ≤ m)
-      mark-fits m h =
-          let w = listed-lines n s listed i (least-holds c s o).0 in
-          let f = T.tabled.fits in
-          (omega arith, omega arith, omega (arith, below))
 
       pub set-holding : Holding n s i.left c
       set-holding = least-holding n s listed c below o (holds-lines c i (least-holds c s o).1).0
@@ -190,39 +163,22 @@ module _ {n : ℕ} {set bag rises falls : List ℕ} {bags : ℕ} (T : Tallies n 
             let w = bag_lines n s b listed T.brackets j m in
             (omega (arith, T.fall-wide, C.ended.as_long), omega (arith, T.rise-wide, C.begun.as_long)))
 
-        pub turned : {noted noted' set' bag' rises₂ falls₂ : List ℕ} {bags' : ℕ} → n * bracket_record ≤ length noted
-            → noted' ≡ written noted (c * bracket_record) (bracket_bytes i) → set' ≡ table_of (strike c s) → Listing (strike c b) bag bags' bag'
-            → Changed false falls₁ rises₁ (keep (holds c) b) falls₂ rises₂
-            → Turned n set bag rises falls noted set' bag' bags' rises₂ falls₂ noted'
-        unfolding noted_for
-        turned {noted} {noted'} {set'} {bag'} {rises₂} {falls₂} {bags'} long w S B D =
-            let u = below in
-            let struck = left_as n (strike c s) T.tabled.fits (strike-listed n s listed c) S in
-            let less : bags' ≤ bags = omega (arith, spans_length bag bags, spans_length bag' bags', ap length B.list, length_struck c b) in
-            let rises_long : length rises₂ ≡ length rises = D.ended.as_long ∙ C.begun.as_long in
-            let falls_long : length falls₂ ≡ length falls = D.begun.as_long ∙ C.ended.as_long in
-            let step = marked_step n s listed once o in
-            record {
-              tallies = record {
-                tabled = struck.0;
-                brackets = λ p. ap (count p) B.list ∙ bag_strike n s b listed T.brackets c p ∙ ap (λ z. count p (trace n z)) (sym struck.1);
+        module _ (t' : Table) (l : t'.last ≡ t.last) (S : t'.rows ≡ table_of (strike c s)) where
+          pub still-tallied : {b' : List Span} {rises₂ falls₂ : List ℕ} → b' ≡ strike c b → Changed false falls₁ rises₁ (keep (holds c) b) falls₂ rises₂ → Tallies t' b' rises₂ falls₂
+          still-tallied {b'} {rises₂} {falls₂} B D =
+              let so = struck_of t c t' l S in
+              let e : t'.last.0 ≡ n = ap number l in
+              let rises_long : length rises₂ ≡ length rises = D.ended.as_long ∙ C.begun.as_long in
+              let falls_long : length falls₂ ≡ length falls = D.begun.as_long ∙ C.ended.as_long in
+              let brackets : trace t'.last.0 (spans t') ≡ trace n (strike c s) = (λ x. trace (e x) (so x)) in
+              record {
+                brackets = λ p. ap (count p) B ∙ bag_strike n s b listed T.brackets c p ∙ ap (count p) (sym brackets);
                 lined =
-                    subst⁻¹ (λ z. Lined z (spans_in bag' 0 bags') rises₂ falls₂) struck.1
-                    (subst⁻¹ (λ z. Lined (strike c s) z rises₂ falls₂) B.list (exchanged (set-gone (exchanged (set-gone T.lined c C)) c D)));
+                    subst⁻¹ (λ z. Lined z b' rises₂ falls₂) so
+                    (subst⁻¹ (λ z. Lined (strike c s) z rises₂ falls₂) B (exchanged (set-gone (exchanged (set-gone T.lined c C)) c D)));
                 rise-wide = omega (arith, T.rise-wide);
                 fall-wide = omega (arith, T.fall-wide);
-                fits = omega (arith, T.fits, B.as_long);
-              };
-              fewer = omega (arith, ap length struck.1, strike-shorter n s listed once);
-              one_more = ap length step ∙ ap (λ z. suc (length (marked n z))) (sym struck.1) ∙ omega arith;
-              marking =
-                  ap (λ ms. noted_for ms noted) step
-                  ∙ ap₂ (λ (z : List Span) (r : List ℕ). noted_for (marked n z) r) (sym struck.1) (sym w);
-              bags-long = B.as_long;
-              rises_long = rises_long;
-              falls_long = falls_long;
-              noted-long = ap length w ∙ length-written noted (c * bracket_record) (bracket_bytes i) (omega arith);
-            }
+              }
 
         -- before the first line that was struck the counts are as they were
         module _ {f : ℕ} (F : Since i.left (keep (holds c) b) f) {falls₂ rises₂ : List ℕ} (D : Changed false falls₁ rises₁ (keep (holds c) b) falls₂ rises₂) where
@@ -231,12 +187,12 @@ module _ {n : ℕ} {set bag rises falls : List ℕ} {bags : ℕ} (T : Tallies n 
               quiet (keep (holds c) s) f
               (λ j m.
               let k = member-keep j (holds c) s in
-              let t = sym k ∙ m in
-              let w = set_lines n s b listed T.brackets j (struck_of c s j m) in
-              (omega (arith, F.given, set-holding.none_before j (struck_of c s j m) (and_right (member j s) (holds c j) t)), w.0))
+              let x = sym k ∙ m in
+              let w = set_lines n s b listed T.brackets j (of_struck c s j m) in
+              (omega (arith, F.given, set-holding.none_before j (of_struck c s j m) (and_right (member j s) (holds c j) x)), w.0))
 
           bag_quiet : (x : ℕ) → x < f → (beginning (keep (holds c) b) x ≡ 0) × (ending (keep (holds c) b) x ≡ 0)
-          bag_quiet = quiet (keep (holds c) b) f (λ j m. (F.begun j m, (bag_lines n s b listed T.brackets j (struck_of c b j m)).0))
+          bag_quiet = quiet (keep (holds c) b) f (λ j m. (F.begun j m, (bag_lines n s b listed T.brackets j (of_struck c b j m)).0))
 
           pub early : f ≤ c
           early = omega (arith, F.given, set-holding.early)
@@ -254,8 +210,8 @@ module _ {n : ℕ} {set bag rises falls : List ℕ} {bags : ℕ} (T : Tallies n 
               (omega (arith, C.begun.each x v, D.ended.each x v₁), omega (arith, C.ended.each x w, D.begun.each x w₁))
 
           -- so the next column is looked for from there
-          pub onward : {h : ℕ} → h ≡ held_to rises₂ falls₂ f → Onward n rises₂ falls₂ f h
-          onward e =
+          pub onward : {m h : ℕ} → m ≡ n → h ≡ held_to rises₂ falls₂ f → Onward m rises₂ falls₂ f h
+          onward q e =
               let u = below in
               let a = early in
               record {
@@ -267,25 +223,17 @@ module _ {n : ℕ} {set bag rises falls : List ℕ} {bags : ℕ} (T : Tallies n 
               }
 
 -- a column that was struck is not held, so that what is held before a line can be counted back from there
-pub back_asks : {n c f : ℕ} {set bag rises falls : List ℕ} {bags : ℕ} (s : List Span) → Listed n s → set ≡ table_of (strike c s) → Tallies n set bag bags rises falls → c < n → f ≤ c
+pub back_asks : (t : Table) {t' : Table} {b : List Span} {rises falls : List ℕ} {c f : ℕ} → t'.last ≡ t.last → t'.rows ≡ table_of (strike c (spans t)) → Tallies t' b rises falls → c < t.last.0 → f ≤ c
     → Steps (c + 1) rises falls × (is_held_in rises falls c ≡ 0) × (f ≤ c) × (c + 1 < 2 ^ 64)
-back_asks {n} {c} {set = set} {bag} {bags = bags} s listed S T u h =
-    let struck = left_as n (strike c s) T.tabled.fits (strike-listed n s listed c) S in
-    let none = count-zero (holds c) (strike c s) (none_any (holds c) (strike c s) (λ j m. (strike-member c s j (in_member m)).1)) in (
+back_asks t {t'} {b} {c = c} l S T u h =
+    let e : t'.last.0 ≡ t.last.0 = ap number l in
+    let none = count-zero (holds c) (strike c (spans t)) (none_any (holds c) (strike c (spans t)) (λ j m. (strike-member c (spans t) j (in_member m)).1)) in (
       steps_fewer (counts_step T) (c + 1) (omega arith),
-      omega (arith, held_of T c u, bag_count n (set_of n set) (spans_in bag 0 bags) (set-listed n set) T.brackets c, ap (count (holds c)) struck.1),
+      omega (arith, held_of T c (omega arith), bag_count t'.last.0 (spans t') b (set-listed t'.last.0 t'.rows) T.brackets c, ap (count (holds c)) (struck_of t c t' l S)),
       h,
-      omega (arith, T.tabled.fits),
+      omega (arith, t.tabled.fits),
     )
 
 -- at first it is looked for from the first column on
 pub onward-start : (n : ℕ) (rises falls : List ℕ) → Onward n rises falls 0 0
 onward-start n rises falls = record { within = omega arith; before = held_none rises falls; none-once = λ x u e. omega arith }
-
--- nothing is left
-pub marks-over : (n : ℕ) (s : List Span) → s ≡ [] → (room : List ℕ) → (noted_for (marked n s) room ≡ room) × (length (marked n s) ≡ 0)
-unfolding noted_for
-marks-over n s e room = (ap (λ z. noted_for (marked n z) room) e ∙ ap (λ ms. noted_for ms room) (marked_empty n), ap (λ z. length (marked n z)) e ∙ ap length (marked_empty n))
-
-pub marks-few : {n : ℕ} {set : List ℕ} → Tabled n set → length (marked n (set_of n set)) ≤ side
-marks-few {n} {set} T = omega (arith, marked-length n (set_of n set) (set-listed n set), final-short n (set_of n set) (set-listed n set), T.fits)

@@ -1,5 +1,5 @@
 pub mod Spans
+pub mod Kept
 pub mod Rows
 pub mod Tally
 pub mod Marks
-pub mod Plain

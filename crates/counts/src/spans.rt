@@ -14,7 +14,7 @@ pub fn interval_in(list: &[u8], k: usize) -> Interval
 {
     let at = k * BRACKET_RECORD;
     Interval {
-        left: Line(list[at] as usize),
-        right: Line(list[at + 1] as usize),
+        left: Line(usize::from(list[at])),
+        right: Line(usize::from(list[at + 1])),
     }
 }

@@ -1,23 +1,18 @@
--- A row along an interval, one square at a time from the left: how the code asks for it.
--- Each law opens one clause of the definition; `copper_along` uses them.
-use mathlib.Core.Path.{◌≡◌}
-use mathlib.Core.Bool.{true, false}
-use Prim.Native.Nat.{ℕ, suc, ◌+◌, ◌-◌, ◌≤◌, ◌<◌}
+-- All squares of an interval, as the code asks for them: over the range of its columns. `copper_along` uses it.
+use mathlib.Core.Path.{◌≡◌, refl, ap, ◌∙◌}
+use mathlib.Core.Bool.{Bool, ◌&&◌}
+use Prim.Native.Nat.{ℕ, zero, suc, ◌-◌}
 use native.Mathlib.Numerals.{add-one}
-use native.Mathlib.Omega.{arith}
+use Rattle.std.specs.List.{list_all, range_with_len}
+use Rattle.lists.specs.Lists.{all, from}
 use Rattle.method.specs.Intervals.{span}
 use Rattle.grid.specs.Squares.{Area}
 use Rattle.cover.specs.Slices.{copper_along}
 
-module _ (a : Area) (y l r : ℕ) where
-  pub along-stop : l < r → a l y ≡ false → copper_along a y (span l r) ≡ false
-  unfolding copper_along
-  along-stop h f = let e : r - l ≡ suc (r - suc l) = omega arith in rw (e, f)
+all-range : (p : ℕ → Bool) (l n : ℕ) → list_all p (range_with_len l n) ≡ all p (from l n)
+all-range p l zero = refl
+all-range p l (suc n) = ap (λ k. p l && list_all p (range_with_len k n)) (add-one l) ∙ ap (λ b. p l && b) (all-range p (suc l) n)
 
-  pub along-on : l < r → a l y ≡ true → copper_along a y (span l r) ≡ copper_along a y (span (l + 1) r)
-  unfolding copper_along
-  along-on h t = let e : r - l ≡ suc (r - suc l) = omega arith in rw (add-one l, e, t)
-
-  pub along-end : r ≤ l → copper_along a y (span l r) ≡ true
-  unfolding copper_along
-  along-end h = let e : r - l ≡ 0 = omega arith in rw e
+pub along-asked : (a : Area) (y l r : ℕ) → list_all (λ x. a x y) (range_with_len l (r - l)) ≡ copper_along a y (span l r)
+unfolding copper_along
+along-asked a y l r = all-range (λ x. a x y) l (r - l)

@@ -24,7 +24,7 @@ use Rattle.grid.specs.Squares.{Area}
 use Rattle.grid.specs.Code.{or_end}
 use Rattle.grid.proofs.Next.{end-some}
 use Rattle.words.specs.Words.{past_of}
-use Rattle.intervals.specs.Table.{set_of, table_of, Tabled, changed, with}
+use Rattle.intervals.specs.Table.{set_of, table_of, changed, with}
 use Rattle.intervals.proofs.TableLaws.{left_as}
 use Rattle.cover.specs.Slices.{ends_left, slice}
 use Rattle.cover.specs.Code.{beside, with_changed}
@@ -211,8 +211,5 @@ changed_slices row touched change w n narrow told s =
 
 -- the table on the way
 module _ (row touched : ℕ → Bool) (w : ℕ) (s : List Interval) (c : ℕ) (fits : w ≤ side) {t : List ℕ} (q : t ≡ table_of (changed_to row touched w s c)) where
-  pub changed-tabled : Tabled w t
-  changed-tabled = (left_as w (changed_to row touched w s c) fits (changed-listed row touched w s c) q).0
-
   pub put_table : (i : Interval) (e : ℕ) → with w i (changed_to row touched w s c) ≡ changed_to row touched w s e → table_of (with w i (set_of w t)) ≡ table_of (changed_to row touched w s e)
   put_table i e k = ap (λ z. table_of (with w i z)) (left_as w (changed_to row touched w s c) fits (changed-listed row touched w s c) q).1 ∙ ap table_of k

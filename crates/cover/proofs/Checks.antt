@@ -17,7 +17,7 @@ use Rattle.grid.specs.Answers.{done, check_at, first_refusal, size_out, raster_l
 use Rattle.grid.specs.Raster.{side_fits, size_fits, length_fits, first_bad, in_raster, bad_square, broken_square, area_of}
 use Rattle.grid.specs.declared.answers.Answer.{Answer}
 use Rattle.grid.proofs.Broken.{raster-unbroken}
-use Rattle.grid.proofs.Chain.{Passes, Each, chain, passed-chain, chain_skip, check-passed, passed-check, check_at-passed, passed-check_at, check-low, check_at-low}
+use Rattle.grid.proofs.Chain.{Passes, Each, chain, passed-chain, chain-passed, chain_skip, check-passed, passed-check, check_at-passed, passed-check_at, check-low, check_at-low}
 use Rattle.cover.specs.Cover.{Given, refused_at, cover_checks, or_work, answered, cover_gives}
 use Rattle.cover.specs.Code.{size_checks}
 use Rattle.cover.specs.Demand3.{Asked}
@@ -110,6 +110,9 @@ module _ (w h k : ℕ) (raster f m : List ℕ) where
         flashes-fit = p.flash_room;
         marks-fit = p.mark_room;
       }
+
+  pub done-asked : done ≡ first_refusal (cover_checks w h k raster f m) → Asked w h k raster f m
+  done-asked e = passes-asked (chain-passed (cover_checks w h k raster f m) (sym (ap (λ (a : Answer). a.number) e)))
 
   pub asked-answered : Asked w h k raster f m → cover_gives w h k raster f m ≡ answered (area_of w h raster) w h k f m
   asked-answered q =

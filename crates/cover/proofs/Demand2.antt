@@ -1,4 +1,5 @@
--- Demand 2: on success the rooms hold the flashes and marks that the rules give, the flashes cover the copper and nothing else, the counts and the flashed area are those of the records, and the copper number is the area's.
+-- Demand 2: on success the rooms hold the flashes and marks that the rules give, the flashes cover the copper and nothing else,
+-- the counts and the flashed area are those of the records, and the copper number is the area's.
 -- A success has passed every check, so the columns are unbroken and the flashes cover; the records are read back as they were written.
 use mathlib.Core.Path.{◌≡◌, refl, sym, ap, subst}
 use mathlib.Core.List.{List}

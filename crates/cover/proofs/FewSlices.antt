@@ -120,7 +120,8 @@ module _ (a : Area) (w h : ℕ) (narrow : (c y : ℕ) → a c y ≡ true → c <
         let p = slice-lines a (lowest i) i shows in
         ocase (first (λ c. not (below a c (lowest i))) (from i.left (i.right - i.left)))
         (λ e.
-        let along : (c : ℕ) → i.left ≤ c → c < i.right → below a c (lowest i) ≡ true = λ c l r. not-false (below a c (lowest i)) (first-missed (λ x. not (below a x (lowest i))) i.left (i.right - i.left) e c l (omega arith)) in
+        let along : (c : ℕ) → i.left ≤ c → c < i.right → below a c (lowest i) ≡ true =
+        λ c l r. not-false (below a c (lowest i)) (first-missed (λ x. not (below a x (lowest i))) i.left (i.right - i.left) e c l (omega arith)) in
         bcase (under_left a i.left (lowest i))
         (λ b. inr (inl (left-new i.left refl b (ap (λ o. slot o (under_left a i.left (lowest i)) i) e ∙ ap (λ x. slot none x i) b))))
         (λ b.

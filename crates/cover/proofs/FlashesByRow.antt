@@ -1,25 +1,24 @@
 -- Flashes row by row of the table: a row from one end to the next, the rows one after the other, and what is written on the way.
 -- The rows in order are the set in order; whatever the rest gives, all gives. `write_row` and `write_flashes` use it.
-use mathlib.Core.Path.{◌≡◌, refl, sym, ap, subst, ◌∙◌}
+use mathlib.Core.Path.{◌≡◌, sym, ap, subst, ◌∙◌}
 use mathlib.Core.Bool.{true}
 use mathlib.Core.List.Memᴰ
 use mathlib.Core.List.{List, [], ◌∷◌, ◌++◌, map}
 use mathlib.Core.Logic.{by_cases}
+use mathlib.Core.Option.{Option, none, some}
 use Prim.Native.Nat.{ℕ, zero, suc, ◌+◌, ◌-◌, ◌≤◌, ◌<◌}
 use native.Mathlib.Numerals.{add-one}
 use native.Mathlib.Omega.{arith}
 use native.Mathlib.Decide.{dec_lt}
 use lib.ListN.{length, length-append}
-use Rattle.lists.specs.Lists.{keep, gather, first, from}
-use Rattle.lists.proofs.Truth.{bcase, ocase}
+use Rattle.lists.specs.Lists.{keep, gather, from}
+use Rattle.lists.proofs.Truth.{bcase}
 use Rattle.lists.proofs.Members.{In}
 use Rattle.lists.proofs.Ranges.{keep-gather, map-append, map_in}
 use Rattle.lists.proofs.Keep.{kept}
-use Rattle.lists.proofs.Searches.{first-within}
 use Rattle.method.specs.Intervals.{Interval, span, beginning_at, member}
 use Rattle.method.specs.Runs.{Listed}
 use Rattle.grid.specs.Squares.{Rectangle}
-use Rattle.grid.specs.Code.{or_end}
 use Rattle.intervals.specs.Table.{next_end}
 use Rattle.intervals.proofs.TableRows.{next_here, next-on, next-over}
 use Rattle.cover.specs.Code.{from_line, Drawn, Ready, Added}
@@ -30,13 +29,13 @@ use Rattle.cover.proofs.RecordsBehind.{as_added, none-added, more_added}
 -- a row, from one end to the next
 module _ (n : ℕ) (s : List Interval) (l : ℕ) where
   -- the intervals of the row that end beyond line p
-  abbrev beyond : ℕ → List Interval
+  abbrev pub beyond : ℕ → List Interval
   beyond p = keep (λ i. member i s) (map (λ r. span l r) (from (suc p) (n - p)))
 
-  -- what is left of the row where the next of its intervals ends at line e, and none does where e is 0
-  abbrev pub rest_at : ℕ → List Interval
-  rest_at zero = []
-  rest_at (suc e) = span l (suc e) ∷ beyond (suc e)
+  -- the same, by the next of its ends
+  abbrev rest_at : Option ℕ → List Interval
+  rest_at none = []
+  rest_at (some e) = span l e ∷ beyond e
 
   beyond-over : (p : ℕ) → n ≤ p → beyond p ≡ rest_at (next_end n s l p)
   beyond-over p u = let e : n - p ≡ 0 = omega arith in rw (e, next-over n s l p u)
@@ -48,28 +47,16 @@ module _ (n : ℕ) (s : List Interval) (l : ℕ) where
       (λ h.
       let e : n - p ≡ suc (n - suc p) = omega arith in
       bcase (member (span l (suc p)) s)
-      (λ t. rw (next_here n s l p h (rw (add-one p) t) ∙ add-one p, e, t))
+      (λ t. rw (next_here n s l p h (rw (add-one p) t) ∙ ap some (add-one p), e, t))
       (λ f. rw (next-on n s l p h (rw (add-one p) f) ∙ ap (next_end n s l) (add-one p), e, f) (beyond-left k (suc p) (omega arith))))
       (λ h. beyond-over p (omega arith))
 
-  -- the first of its ends; one interval, and what is left after it; none
-  pub row-start : (e : ℕ) → e ≡ next_end n s l l → from_line n s l ≡ rest_at e
-  row-start e q = beyond-left n l (omega arith) ∙ ap rest_at (sym q)
+  -- one interval, and what is left after it; none
+  pub row-next : (p : ℕ) {e : ℕ} → next_end n s l p ≡ some e → beyond p ≡ span l e ∷ beyond e
+  row-next p q = beyond-left n p (omega arith) ∙ ap rest_at q
 
-  pub row_next : (e r : ℕ) → 0 < e → r ≡ next_end n s l e → rest_at e ≡ span l e ∷ rest_at r
-  row_next zero r u q = absurd (omega arith)
-  row_next (suc e) r u q = ap (span l (suc e) ∷◌) (beyond-left n (suc e) (omega arith) ∙ ap rest_at (sym q))
-
-  pub row-over : (e : ℕ) → e ≤ 0 → rest_at e ≡ []
-  row-over zero u = refl
-  row-over (suc e) u = absurd (omega arith)
-
-  pub next-member : (p e : ℕ) → e ≡ next_end n s l p → 0 < e → member (span l e) s ≡ true
-  unfolding next_end
-  next-member p e q u =
-      ocase (first (λ r. member (span l r) s) (from (p + 1) (n - p)))
-      (λ o. absurd (omega (arith, ap (or_end 0) o)))
-      (λ r o. ap (λ k. member (span l k) s) (q ∙ ap (or_end 0) o) ∙ (first-within (λ r. member (span l r) s) (p + 1) (n - p) o).2)
+  pub row-over : (p : ℕ) → next_end n s l p ≡ none → beyond p ≡ []
+  row-over p q = beyond-left n p (omega arith) ∙ ap rest_at q
 
 -- the rows from line l on
 module _ (n : ℕ) (s : List Interval) where
@@ -121,4 +108,43 @@ module _ {all rest : List Rectangle} {f₀ f : List ℕ} {d₀ d : Flashed} (G :
         small = omega (arith, G.ready.small, A.count, A.area, flashed-small ps drawn);
         lent = omega (arith, G.ready.lent, A.as_long);
       };
+    }
+
+-- a row on the way, beyond line p
+pub record GoingRow (n : ℕ) (s : List Interval) (l : ℕ) (rule : Interval → Rectangle) (p : ℕ) (f₀ : List ℕ) (d₀ : Flashed) (f : List ℕ) (d : Flashed) : Type 0 where
+  pub going : Going (map rule (from_line n s l)) (map rule (beyond n s l p)) f₀ d₀ f d
+
+module _ {n : ℕ} {s : List Interval} {l : ℕ} {rule : Interval → Rectangle} {p : ℕ} {f₀ f : List ℕ} {d₀ d : Flashed} (G : GoingRow n s l rule p f₀ d₀ f d) where
+  pub row_over : next_end n s l p ≡ none → Added (map rule (from_line n s l)) f₀ d₀ d f
+  row_over q = going_over G.going (ap (map rule) (row-over n s l p q))
+
+  module _ {e : ℕ} (q : next_end n s l p ≡ some e) where
+    pub row_ready : Ready (rule (span l e) ∷ []) d f
+    row_ready = going_ready G.going (rule (span l e) ∷ []) (map rule (beyond n s l e)) (ap (map rule) (row-next n s l p q))
+
+    pub row_smaller : length (beyond n s l e) < length (beyond n s l p)
+    row_smaller = omega (arith, ap length (row-next n s l p q))
+
+    pub row_turn : Drawn (rule (span l e)) → {f' : List ℕ} {d' : Flashed} → Added (rule (span l e) ∷ []) f d d' f' → GoingRow n s l rule e f₀ d₀ f' d'
+    row_turn drawn A = record { going = going_next G.going (rule (span l e) ∷ []) (map rule (beyond n s l e)) (ap (map rule) (row-next n s l p q)) (one-drawn drawn) A }
+
+-- all rows on the way, from line l on
+pub record GoingRows (n : ℕ) (s : List Interval) (rule : Interval → Rectangle) (l : ℕ) (f₀ : List ℕ) (d₀ : Flashed) (f : List ℕ) (d : Flashed) : Type 0 where
+  pub going : Going (map rule s) (map rule (rows_from n s l)) f₀ d₀ f d
+
+pub rows_begun : (n : ℕ) (s : List Interval) (rule : Interval → Rectangle) {f : List ℕ} {d : Flashed} → Listed n s → Ready (map rule s) d f → GoingRows n s rule 0 f d f d
+rows_begun n s rule {f} {d} listed r = record { going = subst (λ z. Going (map rule s) z f d f d) (ap (map rule) (rows_start n s listed)) (going_start r) }
+
+module _ {n : ℕ} {s : List Interval} {rule : Interval → Rectangle} {l : ℕ} {f₀ f : List ℕ} {d₀ d : Flashed} (G : GoingRows n s rule l f₀ d₀ f d) where
+  pub rows_over : n ≤ l → Added (map rule s) f₀ d₀ d f
+  rows_over u = going_over G.going (ap (map rule) (rows-over n s l u))
+
+  module _ (u : l < n) where
+    pub rows_ready : Ready (map rule (from_line n s l)) d f
+    rows_ready = going_ready G.going (map rule (from_line n s l)) (map rule (rows_from n s (l + 1))) (flashes-next n s rule l u)
+
+    pub rows_turn : ((i : Interval) → member i s ≡ true → Drawn (rule i)) → {f' : List ℕ} {d' : Flashed} → Added (map rule (from_line n s l)) f d d' f'
+        → GoingRows n s rule (l + 1) f₀ d₀ f' d'
+    rows_turn drawn A = record {
+      going = going_next G.going (map rule (from_line n s l)) (map rule (rows_from n s (l + 1))) (flashes-next n s rule l u) (row-drawn n s rule drawn l) A;
     }

@@ -24,9 +24,9 @@ pub mod BrokenColumn
 pub mod RowsHold
 -- What the code's loops rest on.
 pub mod Along
-pub mod Variants
 pub mod RowChanges
 pub mod ChangedRow
+pub mod NextSlice
 pub mod StartingByChange
 pub mod RecordsBehind
 pub mod FlashBounds
@@ -36,3 +36,5 @@ pub mod NotedMarks
 pub mod ByColumn
 pub mod Refusals
 pub mod Worked
+pub mod Sheeted
+pub mod Sheets

@@ -4,8 +4,7 @@ use mathlib.Core.Path.{◌≡◌, refl, sym, ap, ◌∙◌}
 use mathlib.Core.Bool.{Bool, true, false, not}
 use mathlib.Core.List.{List}
 use mathlib.Core.Logic.{by_cases}
-use Prim.Native.Nat.{ℕ, zero, suc, ◌+◌, ◌≤◌, ◌<◌, max}
-use native.Mathlib.Numerals.{add-one}
+use Prim.Native.Nat.{ℕ, zero, suc, ◌≤◌, ◌<◌, max}
 use native.Mathlib.Omega.{arith}
 use native.Mathlib.Decide.{dec_lt}
 use lib.ListN.{get_or}
@@ -64,20 +63,6 @@ module _ (b e y : ℕ) where
 
   pub past-from : b ≤ y → max y e ≡ row_past b e y
   past-from u = rw (le-ltb y b u)
-
--- the column beside a line, where there is one
-module _ (bottoms ends : List ℕ) (l y : ℕ) where
-  pub left-none : l ≡ 0 → y ≡ past_left bottoms ends l y
-  left-none e = rw e
-
-  pub left_one : (c : ℕ) → c + 1 ≡ l → row_past (get_or bottoms c 0) (get_or ends c 0) y ≡ past_left bottoms ends l y
-  left_one c e = rw (← e, add-one c)
-
-  pub right_none : (n : ℕ) → n ≤ l → y ≡ past_right n bottoms ends l y
-  right_none n u = rw (le-ltb l n u)
-
-  pub right_one : (n c : ℕ) → c ≡ l → l < n → row_past (get_or bottoms c 0) (get_or ends c 0) y ≡ past_right n bottoms ends l y
-  right_one n c e u = rw (e, lt-ltb l n u)
 
 module _ (b e : ℕ) where
   -- the rows from b to before e

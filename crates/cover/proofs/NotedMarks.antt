@@ -2,11 +2,10 @@
 -- A column gives one mark or none, so there are no more marks than columns. `write_mark` and `write_marks` use it.
 use mathlib.Core.Path.{◌≡◌, sym, ap, ◌∙◌}
 use mathlib.Core.List.{List, [], ◌∷◌, ◌++◌, append-nil}
-use Prim.Native.Nat.{ℕ, zero, suc, ◌+◌, ◌-◌, ◌≤◌, ◌<◌}
+use Prim.Native.Nat.{ℕ, zero, suc, ◌+◌, ◌-◌, ◌≤◌}
 use native.Mathlib.Omega.{arith}
 use lib.ListN.{length, take, length-append, length-take}
 use lib.Seq.{take-nil}
-use borrow.Author.Tests.{lt-ltb, le-ltb}
 use Rattle.lists.specs.Lists.{gather, from, up_to}
 use Rattle.lists.proofs.Truth.{bcase}
 use Rattle.lists.proofs.Ranges.{from-append, gather_append}
@@ -24,18 +23,9 @@ take-append zero (x ∷ xs) ys = sym (take_none (0 - suc (length xs)) ys (omega 
 take-append (suc n) (x ∷ xs) ys = let e : suc n - suc (length xs) ≡ n - length xs = omega arith in rw e (ap (x ∷◌) (take-append n xs ys))
 
 module _ (rows : Interval → ℕ) (noted : List ℕ) where
-  -- one column: no more marks to be taken, none noted, or the one that is noted
+  -- no more marks to be taken
   pub no_more : (c most n : ℕ) → most ≤ n → take (most - n) (marked_in rows noted c) ≡ []
   no_more c most n l = take_none (most - n) (marked_in rows noted c) (omega arith)
-
-  pub not_noted : (c most n : ℕ) → (span_in noted c).right - (span_in noted c).left ≡ 0 → take (most - n) (marked_in rows noted c) ≡ []
-  not_noted c most n e = rw (le-ltb (span_in noted c).left (span_in noted c).right (omega arith)) (take-nil (most - n))
-
-  pub one-noted : (c most n : ℕ) → n < most → ((span_in noted c).right - (span_in noted c).left ≡ 0 → ⊥)
-      → take (most - n) (marked_in rows noted c) ≡ record { column = c; row = rows (span_in noted c) } ∷ []
-  one-noted c most n l e =
-      let k : most - n ≡ suc (most - suc n) = omega arith in
-      rw (lt-ltb (span_in noted c).left (span_in noted c).right (omega arith), k, take-nil (most - suc n))
 
   pub noted-none : (most : ℕ) → take most (marks_noted rows noted 0) ≡ []
   unfolding marks_noted

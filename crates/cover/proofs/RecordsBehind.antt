@@ -71,9 +71,6 @@ module _ {qs : List Rectangle} {f f' : List ℕ} {d r : Flashed} (A : Added qs f
   }
 
 -- the same of marks
-pub one-marked : {s : Square} {m m' : List ℕ} {n : ℕ} → n < side → mark_room_size ≤ length m → m' ≡ written m (n * mark_record) (mark_bytes s) → MarksAdded (s ∷ []) m n (n + 1) m'
-one-marked {s} {m} {n = n} few lent r = record { count = refl; room = r; as_long = ap length r ∙ length-written m (n * mark_record) (mark_bytes s) (omega arith) }
-
 pub none-marked : (m : List ℕ) (n : ℕ) → MarksAdded [] m n n m
 none-marked m n = record { count = omega arith; room = sym (written_none m (n * mark_record)); as_long = refl }
 

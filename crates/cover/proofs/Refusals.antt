@@ -1,17 +1,16 @@
--- The checks as the code makes them, in two parts, are document 01's chain: what a call gives is the first answer that refuses, or the work.
--- From the chain's laws (grid). The entry point uses it.
-use mathlib.Core.Path.{◌≡◌, sym, ap, ◌∙◌}
+-- What a call gives is the first check's answer that refuses, or the work. The entry point uses it.
+use mathlib.Core.Path.{◌≡◌, refl, sym, ap, ◌∙◌}
 use mathlib.Core.List.{List}
 use Prim.Native.Nat.{ℕ}
-use lib.ListN.{length}
 use borrow.Author.Tests.{eq-eqb, ne_eqb}
-use Rattle.grid.specs.Answers.{or_else, first_refusal}
+use Rattle.grid.specs.Answers.{done, answer_of, first_refusal}
 use Rattle.grid.specs.Raster.{area_of}
 use Rattle.grid.specs.declared.answers.Answer.{Answer}
-use Rattle.grid.proofs.Chain.{Passes, stands, gives_way, chain-append}
-use Rattle.cover.specs.Cover.{Given, refused_at, or_work, answered, cover_gives, Gives}
-use Rattle.columns.specs.Columns.{raster_checks}
-use Rattle.cover.specs.Code.{outcome_of, size_checks}
+use Rattle.grid.specs.declared.answers.Refusal.{Refusal}
+use Rattle.grid.proofs.Chain.{Passes}
+use Rattle.grid.proofs.Refusals as Codes
+use Rattle.cover.specs.Cover.{Given, refused_at, cover_checks, or_work, answered, cover_gives, Gives}
+use Rattle.cover.specs.Code.{outcome_of}
 use Rattle.cover.specs.declared.entry.Outcome.{Outcome}
 
 module _ (a : Answer) (f m : List ℕ) (work : Given) where
@@ -23,25 +22,17 @@ module _ (a : Answer) (f m : List ℕ) (work : Given) where
   unfolding or_work
   works e = rw (eq-eqb a.number 0 e)
 
--- the three ways out of the entry point: by the first answer, by the second, and by the work
-module _ (w h k : ℕ) (raster f m : List ℕ) {a : Answer} (sizes : a ≡ first_refusal (size_checks w h k (length raster) (length f) (length m))) where
-  in_parts : cover_gives w h k raster f m ≡ or_work (or_else a (first_refusal (raster_checks w h raster))) f m (answered (area_of w h raster) w h k f m)
+-- the two ways out of the entry point: by a refusal, and by the work
+module _ (w h k : ℕ) (raster f m : List ℕ) where
+  pub gives-refused : (r : Refusal) {o : Outcome} → answer_of r ≡ first_refusal (cover_checks w h k raster f m) → o ≡ outcome_of (answer_of r) → Gives w h k raster f m o f m
   unfolding cover_gives
-  in_parts =
-      ap (λ z. or_work z f m (answered (area_of w h raster) w h k f m))
-      (chain-append (size_checks w h k (length raster) (length f) (length m)) (raster_checks w h raster) ∙ ap (λ z. or_else z (first_refusal (raster_checks w h raster))) (sym sizes))
-
-  pub gives-first : {r : Outcome} → (Passes a → ⊥) → r ≡ outcome_of a → Gives w h k raster f m r f m
-  gives-first n e =
+  gives-refused r q e =
+      let work = answered (area_of w h raster) w h k f m in
       (λ i. record { outcome = e i; flashes_after = f; marks_after = m })
-      ∙ sym (in_parts ∙ ap (λ z. or_work z f m (answered (area_of w h raster) w h k f m)) (stands a _ n) ∙ refuses a f m _ n)
+      ∙ sym (ap (λ z. or_work z f m work) (sym q) ∙ refuses (answer_of r) f m work (Codes.refuses r))
 
-  module _ (pass : Passes a) {b : Answer} (bytes : b ≡ first_refusal (raster_checks w h raster)) where
-    second : cover_gives w h k raster f m ≡ or_work b f m (answered (area_of w h raster) w h k f m)
-    second = in_parts ∙ ap (λ z. or_work z f m (answered (area_of w h raster) w h k f m)) (gives_way a _ pass ∙ sym bytes)
-
-    pub gives-second : {r : Outcome} → (Passes b → ⊥) → r ≡ outcome_of b → Gives w h k raster f m r f m
-    gives-second n e = (λ i. record { outcome = e i; flashes_after = f; marks_after = m }) ∙ sym (second ∙ refuses b f m _ n)
-
-    pub gives_worked : {g : Given} → Passes b → g ≡ answered (area_of w h raster) w h k f m → g ≡ cover_gives w h k raster f m
-    gives_worked n e = e ∙ sym (second ∙ works b f m _ n)
+  pub gives_worked : {g : Given} → done ≡ first_refusal (cover_checks w h k raster f m) → g ≡ answered (area_of w h raster) w h k f m → g ≡ cover_gives w h k raster f m
+  unfolding cover_gives
+  gives_worked q e =
+      let work = answered (area_of w h raster) w h k f m in
+      e ∙ sym (ap (λ z. or_work z f m work) (sym q) ∙ works done f m work refl)

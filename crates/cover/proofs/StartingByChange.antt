@@ -26,25 +26,18 @@ use Rattle.words.proofs.Words.{on-zero}
 use Rattle.columns.specs.Columns.{Reached, Upright, past, end_at}
 use Rattle.columns.proofs.ColumnRows.{row-between, between-row}
 use Rattle.columns.proofs.ColumnCounts.{upright}
-use Rattle.intervals.specs.Table.{set_of, table_of, Tabled}
+use Rattle.intervals.specs.Table.{set_of, table_of}
 use Rattle.intervals.proofs.TableLaws.{left_as}
 use Rattle.cover.specs.Slices.{ends_left, ends_right, copper_along, slice, shown, starting}
-use Rattle.cover.specs.Code.{Columned, between, differ, changing, beside, with_changed}
+use Rattle.cover.specs.Code.{Columned, Sheeted, between, differ, changing, beside, with_changed}
 use Rattle.cover.proofs.Shown.{shown_by, shown-row}
 use Rattle.cover.proofs.Starting.{starting-listed}
 use Rattle.cover.proofs.SliceLaws.{slice-lines, slice-left, slice_right, slice-copper, lines-slice, copper-along}
 
 -- the table of the starting set
 module _ (a : Area) (w h : ℕ) (fits : w ≤ side) {t : List ℕ} (q : t ≡ table_of (starting a w h)) where
-  pub starting-tabled : Tabled w t
-  starting-tabled = (left_as w (starting a w h) fits (starting-listed a w h) q).0
-
   pub starting-set : set_of w t ≡ starting a w h
   starting-set = (left_as w (starting a w h) fits (starting-listed a w h) q).1
-
--- a table over the lines that the code counts is one over the job's width
-pub width-tabled : {n w : ℕ} {t : List ℕ} → n ≡ w → Tabled w t → Tabled n t
-width-tabled {t = t} e T = subst (λ k. Tabled k t) (sym e) T
 
 -- the row below row y; below row 0 nothing is copper
 unfoldable pub row_below : Area → ℕ → ℕ → Bool
@@ -147,7 +140,8 @@ module _ (a : Area) (y : ℕ) (changed : ℕ → Bool) (told : (c : ℕ) → cha
         let p = slice-lines a y i here in
         fails (changed c)
         (λ t.
-        let from-here : (x : ℕ) → i.left ≤ x → x < i.right → beside changed x ≡ true → ⊥ = λ x u v h. never (any-within (beside changed) i.left (i.right - i.left) x u (omega arith) h) calm in
+        let from-here : (x : ℕ) → i.left ≤ x → x < i.right → beside changed x ≡ true → ⊥ =
+        λ x u v h. never (any-within (beside changed) i.left (i.right - i.left) x u (omega arith) h) calm in
         by_cases (dec_lt c i.left)
         (λ z.
         let e : c ≡ i.left - 1 = omega arith in
@@ -264,3 +258,20 @@ reached-columned a w h narrow low unbroken {bottoms} {ends} R = record {
   upright = upright a unbroken h w R;
   low = λ c l. omega (arith, R.high c l, end_in a h c);
 }
+
+-- of an unbroken area they make a sheet
+pub columns-sheet : (a : Area) (w h : ℕ) → w ≤ side → h ≤ side → InGrid w h a → Unbroken a → {bottoms ends : List ℕ} → Reached a w h bottoms ends → Sheeted w h bottoms ends
+columns-sheet a w h narrow low grid unbroken {bottoms} {ends} R =
+    let same = area-between a w h grid unbroken R in
+    record { narrow = narrow; low = low; unbroken = subst Unbroken same unbroken; reached = subst (λ z. Reached z w h bottoms ends) same R }
+
+-- a sheet's columns stand within the largest grid
+pub columned : (w h : ℕ) (bottoms ends : List ℕ) → Sheeted w h bottoms ends → Columned w bottoms ends
+columned w h bottoms ends S = reached-columned (between w bottoms ends) w h S.narrow S.low S.unbroken S.reached
+
+-- and their copper lies in their grid
+pub columns-grid : (w h : ℕ) (bottoms ends : List ℕ) → Sheeted w h bottoms ends → InGrid w h (between w bottoms ends)
+columns-grid w h bottoms ends S c y t =
+    let l = ltb-true c w (and_left (ltb c w) (leb (get_or bottoms c 0) y) (and_left (ltb c w && leb (get_or bottoms c 0) y) (ltb y (get_or ends c 0)) t)) in
+    let u = ltb-true y (get_or ends c 0) (and_right (ltb c w && leb (get_or bottoms c 0) y) (ltb y (get_or ends c 0)) t) in
+    (l, omega (arith, S.reached.high c l, end_in (between w bottoms ends) h c))

@@ -18,8 +18,8 @@ use Rattle.method.proofs.Marks.{final-short}
 use Rattle.grid.specs.Limits.{side}
 use Rattle.grid.specs.Squares.{Area, Rectangle, InGrid, Unbroken, copper_number}
 use Rattle.columns.specs.Columns.{Reached}
-use Rattle.intervals.specs.Table.{set_of, table_of, Tabled}
-use Rattle.intervals.proofs.TableLaws.{set-table, tabled}
+use Rattle.intervals.specs.Table.{set_of, table_of}
+use Rattle.intervals.proofs.TableLaws.{set-table}
 use Rattle.cover.specs.Slices.{starting}
 use Rattle.cover.specs.Flashes.{flash, flashes, flashed_area}
 use Rattle.cover.specs.Marks.{marks}
@@ -45,9 +45,6 @@ module _ (a : Area) (w h : ℕ) (fits : w ≤ side) where
 
   -- the final set in its table
   module _ {t : List ℕ} (q : t ≡ table_of (final w (starting a w h))) where
-    pub work_tabled : Tabled w t
-    work_tabled = rw q (tabled w (final w (starting a w h)) fits (final-listed w (starting a w h) (starting-listed a w h)))
-
     work_set : set_of w t ≡ final w (starting a w h)
     work_set = ap (set_of w) q ∙ set-table w (final w (starting a w h)) fits (final-listed w (starting a w h) (starting-listed a w h))
 

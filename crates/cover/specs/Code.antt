@@ -1,19 +1,22 @@
 -- What only the contracts of inner functions name: the code's values read as the rules' ones, and what a step leaves behind.
 -- The promises of `keekaboor_cover` stand in Cover.antt and name none of it.
-use Rattle.std.specs.Prelude.{◌≡◌, Bool, true, not, cond, ◌&&◌, ◌||◌, List, [], ◌∷◌, ℕ, zero, suc, ◌+◌, ◌-◌, ◌*◌, ◌≤◌, ◌<◌, max, eqb, leb, ltb, length, get_or}
-use Rattle.lists.specs.Lists.{any, keep, gather, up_to}
+use Rattle.std.specs.Prelude.{Option, Some, None, Bool, true, not, cond, ◌&&◌, ◌||◌, List, [], ◌∷◌, length, get_or}
+use Rattle.std.specs.Prelude.{◌≡◌, ℕ, zero, suc, ◌+◌, ◌-◌, ◌*◌, ◌≤◌, ◌<◌, max, eqb, leb, ltb}
+use Rattle.lists.specs.Lists.{any, keep, gather, up_to, first, from, down}
 use Rattle.method.specs.Intervals.{Interval, proper, columns, beginning_at, select, member}
 use Rattle.grid.specs.Limits.{side, flash_record, mark_record, flash_room_size, mark_room_size, allowance_limit}
 use Rattle.grid.specs.Answers.{check, size_out, raster_length, flash_room_short, mark_room_short, allowance_out, allowance_short}
-use Rattle.grid.specs.Squares.{Area, Rectangle, Square}
-use Rattle.grid.specs.Lines.{row}
+use Rattle.grid.specs.Squares.{Area, Rectangle, Square, Unbroken}
+use Rattle.grid.specs.Lines.{row, line}
+use Rattle.grid.specs.Code.{or_end}
+use Rattle.grid.specs.declared.lines.Interval.{Interval as Lines}
 use Rattle.grid.specs.Raster.{size_fits, length_fits}
 use Rattle.grid.specs.Rooms.{written}
 use Rattle.grid.specs.declared.lines.Mark.{Mark}
 use Rattle.grid.specs.declared.answers.Answer.{Answer}
-use Rattle.columns.specs.Columns.{Upright, greatest_in, least_in}
+use Rattle.columns.specs.Columns.{Upright, Reached, greatest_in, least_in}
 use Rattle.counts.specs.Spans.{span_in}
-use Rattle.words.specs.Words.{on, Bits}
+use Rattle.words.specs.Words.{bits, on, Bits, past_of}
 use Rattle.cover.specs.Slices.{slice}
 use Rattle.cover.specs.Flashes.{flashed_area}
 use Rattle.cover.specs.Records.{flash_bytes, mark_bytes, flashes_written, marks_written}
@@ -28,6 +31,10 @@ rectangle_of q = record { first = q.first.0; last = q.last.0; bottom = q.bottom.
 abbrev pub square_of : Mark → Square
 square_of m = record { column = m.column.0; row = m.row.0 }
 
+abbrev pub squares_of : Option Mark → List Square
+squares_of None = []
+squares_of (Some m) = square_of m ∷ []
+
 -- bottoms and ends of the first w columns, for rows of the largest grid
 pub record Columned (w : ℕ) (bottoms ends : List ℕ) : Type 0 where
   pub narrow : w ≤ side
@@ -40,13 +47,24 @@ pub record Columned (w : ℕ) (bottoms ends : List ℕ) : Type 0 where
 abbrev pub between : ℕ → List ℕ → List ℕ → Area
 between w bottoms ends c y = ltb c w && leb (get_or bottoms c 0) y && ltb y (get_or ends c 0)
 
+-- bottoms and ends, of a grid of w columns and h rows, are those of the area between them, and that area is unbroken
+pub record Sheeted (w h : ℕ) (bottoms ends : List ℕ) : Type 0 where
+  pub narrow : w ≤ side
+  pub low : h ≤ side
+  pub unbroken : Unbroken (between w bottoms ends)
+  pub reached : Reached (between w bottoms ends) w h bottoms ends
+
 -- exactly one of two
 abbrev pub differ : Bool → Bool → Bool
 differ a b = cond a (not b) b
 
--- rows with column c of row y flipped
-abbrev pub flipped_at : ℕ → ℕ → List ℕ → ℕ → ℕ → Bool
-flipped_at y c rows z k = differ (eqb y z && eqb k c) (on (get_or rows z 0) k)
+-- each number is below n
+abbrev pub Within : ℕ → List ℕ → Type 0
+Within n numbers = (c : ℕ) → c < length numbers → get_or numbers c 0 < n
+
+-- rows with each of the first n columns flipped in the row that is given for it
+abbrev pub flipped_at : List ℕ → ℕ → List ℕ → ℕ → ℕ → Bool
+flipped_at places n rows y c = differ (ltb c n && eqb (get_or places c 0) y) (on (get_or rows y 0) c)
 
 -- column c begins or ends in row y, not both: what changes there from the row below
 abbrev pub changing : ℕ → List ℕ → List ℕ → ℕ → ℕ → Bool
@@ -63,6 +81,18 @@ beside p c = p c || p (c + 1) || (ltb 0 c && p (c - 1))
 -- a set with each slice of a row that has a column beside a change
 abbrev pub with_changed : ℕ → (ℕ → Bool) → (ℕ → Bool) → List Interval → List Interval
 with_changed w row changed s = select w (λ i. member i s || (slice (λ c y. row c) 0 i && any (beside changed) (columns i)))
+
+-- the next touched column of a row, from line c on, and the slice that holds it: from one past the last bare column before it to the next bare column
+abbrev pub slice_at : (ℕ → Bool) → ℕ → Lines
+slice_at row k = record {
+  left = line (past_of (first (λ j. not (row j)) (down k)));
+  right = line (or_end bits (first (λ j. not (row j)) (from k (bits - k))));
+}
+
+abbrev pub next_slice : (ℕ → Bool) → (ℕ → Bool) → ℕ → ℕ → Option Lines
+next_slice row touched n c =
+    let k = or_end bits (first touched (from c (bits - c))) in
+    cond (leb n k) None (Some (slice_at row k))
 
 -- a flash whose sides are not reversed, within the largest grid
 pub record Drawn (q : Rectangle) : Type 0 where

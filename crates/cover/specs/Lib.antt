@@ -9,3 +9,4 @@ pub mod Demand3
 pub mod Merging
 pub mod HeldTo
 pub mod Code
+pub mod Sheets

@@ -1,29 +1,27 @@
 // The entry point: everything is checked, then the work is done, then the rooms are written.
-ghost use Rattle.std.specs.Prelude.{◌≡◌, [], ◌*◌, ◌≤◌, length};
-ghost use Rattle.method.specs.Final.{final};
-ghost use Rattle.method.specs.Strike.{marked};
-ghost use Rattle.grid.specs.Limits.{side, allowance_limit, bracket_record, flash_room_size, mark_room_size};
+ghost use Rattle.std.specs.Prelude.{◌≡◌, ◌≤◌, length, IfOk};
+ghost use Rattle.grid.specs.Limits.{allowance_limit, flash_room_size, mark_room_size};
 ghost use Rattle.grid.specs.Squares.{Unbroken};
-ghost use Rattle.grid.specs.Answers.{first_refusal};
-ghost use Rattle.grid.specs.Code.{Sized, area_in};
-ghost use Rattle.columns.specs.Columns.{Reached, raster_checks};
-ghost use Rattle.intervals.specs.Table.{table_of};
-ghost use Rattle.cover.specs.Slices;
-ghost use Rattle.counts.specs.Marks.{noted_for};
-ghost use Rattle.cover.specs.Cover.{answered, Gives};
-ghost use Rattle.cover.specs.Code.{Columned, between, outcome_of, short_of, covered_of, size_checks};
+ghost use Rattle.grid.specs.Answers as Answers;
+ghost use Rattle.grid.specs.Answers.{answer_of, first_refusal};
+ghost use Rattle.grid.specs.Raster.{area_of};
+ghost use Rattle.grid.specs.Code.{area_in};
+ghost use Rattle.columns.specs.Columns.{raster_checks};
+ghost use Rattle.cover.specs.Cover.{answered, cover_checks, Gives};
+ghost use Rattle.cover.specs.Code.{outcome_of, short_of, covered_of, size_checks};
+ghost use Rattle.cover.specs.Sheets.{copper_of};
 
 use crate::flashes::{Flashed, write_flashes};
 use crate::marks::write_marks;
-use crate::slices::{last_line, starting};
-use columns::checks::columns_checked;
+use crate::sheet::{Edges, Sheet};
+use crate::slices::{last_line, put_starting};
 use columns::copper::heights;
-use counts::{NOTES, final_marks};
-use grid::answers::Answer;
-use grid::raster::{Job, Size};
-use grid::{answers, limits, raster};
-use intervals::final_set::Search;
-use intervals::{Table, table};
+use counts::{Marking, NOTES, final_marks};
+use grid::answers::{DONE, Refusal, check};
+use grid::limits;
+use grid::raster::Raster;
+use intervals::Table;
+use intervals::final_set::{Plain, Swept};
 
 #[repr(C)]
 #[derive(Clone, Copy)]
@@ -37,189 +35,168 @@ pub struct Outcome {
     pub flashed: u64,
 }
 
-// A refusal's whole outcome.
-fn refused(a: Answer) -> Outcome
-    ensures { result ≡ outcome_of a }
-{
-    Outcome {
-        answer: a.number,
-        place_x: a.x,
-        place_y: a.y,
-        flashes: 0,
-        marks: 0,
-        copper: 0,
-        flashed: 0,
+impl From<Refusal> for Outcome {
+    ghost from_gives = { λ r o. o ≡ outcome_of (answer_of r) };
+
+    fn from(refusal: Refusal) -> Outcome
+        ensures { result ≡ outcome_of (answer_of refusal) }
+    {
+        let answer = refusal.answer();
+        Outcome {
+            answer: answer.number,
+            place_x: answer.x,
+            place_y: answer.y,
+            flashes: 0,
+            marks: 0,
+            copper: 0,
+            flashed: 0,
+        }
     }
 }
 
-// A short allowance gives marks alone.
-fn short(marks: usize) -> Outcome
-    ensures { result ≡ short_of marks }
-{
-    Outcome {
-        answer: answers::ALLOWANCE_SHORT,
-        place_x: 0,
-        place_y: 0,
-        flashes: 0,
-        marks: marks as u64,
-        copper: 0,
-        flashed: 0,
+impl Outcome {
+    // A short allowance gives marks alone.
+    fn short(marks: usize) -> Outcome
+        ensures { result ≡ short_of marks }
+    {
+        Outcome {
+            marks: marks as u64,
+            ..Outcome::from(Refusal::AllowanceShort)
+        }
     }
-}
 
-fn covered(copper: usize, flashed: Flashed, marks: usize) -> Outcome
-    ensures { result ≡ covered_of copper flashed marks }
-{
-    Outcome {
-        answer: answers::DONE,
-        place_x: 0,
-        place_y: 0,
-        flashes: flashed.count as u64,
-        marks: marks as u64,
-        copper: copper as u64,
-        flashed: flashed.area as u64,
+    fn covered(copper: usize, flashed: Flashed, marks: usize) -> Outcome
+        ensures { result ≡ covered_of copper flashed marks }
+    {
+        Outcome {
+            answer: DONE,
+            place_x: 0,
+            place_y: 0,
+            flashes: flashed.count as u64,
+            marks: marks as u64,
+            copper: copper as u64,
+            flashed: flashed.area as u64,
+        }
     }
 }
 
 // The checks that need no look at the raster's bytes: 1, 2, 3, 4, 6.
-pub fn sizes_checked(
+#[tactic(auto, unfolding(grid::specs::Answers::first_refusal, grid::specs::Answers::or_else))]
+pub fn sizes_checked<'a>(
     width: u64,
     height: u64,
     allowance: u64,
-    raster: &[u8],
+    raster: &'a [u8],
     flash_room: usize,
     mark_room: usize,
-) -> Answer
-    ensures { result ≡ first_refusal (size_checks width height allowance (length raster.now) flash_room mark_room) }
+) -> Result<Raster<'a>, Refusal>
+    ensures value { Answers.answered result ≡ first_refusal (size_checks width height allowance (length raster.now) flash_room mark_room) }
+    ensures raster { IfOk result (λ r. (r.size.width ≡ width) × (r.size.height ≡ height) × (r.bytes ≡ raster.entry)) }
 {
-    Answer::done()
-        .unless(raster::size_fits(width, height), answers::SIZE_OUT)
-        .unless(
-            raster::length_fits(width, height, raster.len() as u64),
-            answers::RASTER_LENGTH,
-        )
-        .unless(limits::FLASH_ROOM <= flash_room, answers::FLASH_ROOM_SHORT)
-        .unless(limits::MARK_ROOM <= mark_room, answers::MARK_ROOM_SHORT)
-        .unless(
-            allowance <= limits::ALLOWANCE_LIMIT as u64,
-            answers::ALLOWANCE_OUT,
-        )
+    let raster = Raster::checked(width, height, raster)?;
+    check(limits::FLASH_ROOM <= flash_room, Refusal::FlashRoomShort)?;
+    check(limits::MARK_ROOM <= mark_room, Refusal::MarkRoomShort)?;
+    check(
+        allowance <= limits::ALLOWANCE_LIMIT as u64,
+        Refusal::AllowanceOut,
+    )?;
+    Ok(raster)
 }
 
 // The checks of the raster's bytes: 7, 8.
-pub fn raster_checked(size: Size, raster: &[u8]) -> Answer
-    requires { Sized size raster.now }
-    ensures { result ≡ first_refusal (raster_checks size.width size.height raster.now) }
+pub fn raster_checked(raster: Raster) -> Result<(), Refusal>
+    ensures { Answers.answered result ≡ first_refusal (raster_checks raster.entry.size.width raster.entry.size.height raster.entry.bytes.now) }
 {
-    let mut bottoms = [0u8; limits::SIDE];
-    let mut ends = [0u8; limits::SIDE];
-    columns_checked(size, raster, &mut bottoms, &mut ends)
+    Sheet::checked(raster)?;
+    Ok(())
 }
 
-// The final set of the starting set into the table, and the starting set's marks into their notes: of the area between the columns' bottoms and ends; answers how many flashes there are.
-fn start_area(
-    size: Size,
-    bottoms: &[u8],
-    ends: &[u8],
-    t: &mut Table,
-    noted: &mut [u8],
-    search: Search,
-) -> usize
-    requires columned { Columned size.width bottoms.now ends.now × (size.height ≤ side) }
-    requires t_value { (t.old ≡ table_of []) × (size.width * bracket_record ≤ length noted.old) }
-    ensures t_after { t.new ≡ table_of (final size.width (Slices.starting (between size.width bottoms.now ends.now) size.width size.height)) }
-    ensures noted_after { noted.new ≡ noted_for (marked size.width (Slices.starting (between size.width bottoms.now ends.now) size.width size.height)) noted.old }
-    ensures value { result ≡ length (final size.width (Slices.starting (between size.width bottoms.now ends.now) size.width size.height)) }
-{
-    starting(size, bottoms, ends, t);
-    final_marks(t, last_line(size), noted, search)
-}
-
-// The cover of an area that has passed every check, with its columns' bottoms and ends.
-fn cover_columns(
-    job: Job,
-    raster: &[u8],
-    bottoms: &[u8],
-    ends: &[u8],
-    flash_room: &mut [u8],
-    mark_room: &mut [u8],
-    search: Search,
-) -> Outcome
-    requires sized { Sized job.size raster.now }
-    requires allowance_le_allowance_limit { (job.allowance ≤ allowance_limit) × (flash_room_size ≤ length flash_room.old) × (mark_room_size ≤ length mark_room.old) }
-    requires unbroken { Unbroken (area_in job.size raster.now) × Reached (area_in job.size raster.now) job.size.width job.size.height bottoms.now ends.now }
-    ensures { record { outcome = result; flashes_after = flash_room.new; marks_after = mark_room.new } ≡ answered (area_in job.size raster.now) job.size.width job.size.height job.allowance flash_room.old mark_room.old }
-{
-    let size = job.size;
-    let last = last_line(size);
-    let mut work = table::empty();
-    let mut noted = [0u8; NOTES];
-    let flashes = start_area(size, bottoms, ends, &mut work, &mut noted, search);
-    if job.allowance < flashes {
-        let marks = write_marks(last, bottoms, ends, &noted, job.allowance + 1, mark_room);
-        return short(marks);
-    }
-    let flashed = write_flashes(last, bottoms, ends, &work, flash_room);
-    let marks = write_marks(last, bottoms, ends, &noted, limits::SIDE, mark_room);
-    covered(heights(size.width, bottoms, ends), flashed, marks)
-}
-
-// The same for whoever has checked already.
-pub fn cover_area(
-    job: Job,
-    raster: &[u8],
-    flash_room: &mut [u8],
-    mark_room: &mut [u8],
-    search: Search,
-) -> Outcome
-    requires sized { Sized job.size raster.now × Unbroken (area_in job.size raster.now) }
-    requires allowance_le_allowance_limit { (job.allowance ≤ allowance_limit) × (flash_room_size ≤ length flash_room.old) × (mark_room_size ≤ length mark_room.old) }
-    ensures { record { outcome = result; flashes_after = flash_room.new; marks_after = mark_room.new } ≡ answered (area_in job.size raster.now) job.size.width job.size.height job.allowance flash_room.old mark_room.old }
-{
-    let mut bottoms = [0u8; limits::SIDE];
-    let mut ends = [0u8; limits::SIDE];
-    columns_checked(job.size, raster, &mut bottoms, &mut ends);
-    cover_columns(job, raster, &bottoms, &ends, flash_room, mark_room, search)
-}
-
-// The checks, and then the cover by the search that is chosen.
-fn cover_checked(
+// All checks before 9. Not inlined, so that what they lay out is gone before the cover's own work begins.
+#[inline(never)]
+fn checked(
     width: u64,
     height: u64,
     allowance: u64,
     raster: &[u8],
-    flash_room: &mut [u8],
-    mark_room: &mut [u8],
-    search: Search,
-) -> Outcome
-    ensures { Gives width height allowance raster.now flash_room.old mark_room.old result flash_room.new mark_room.new }
+    flash_room: &[u8],
+    mark_room: &[u8],
+) -> Result<Sheet, Refusal>
+    ensures value { Answers.answered result ≡ first_refusal (cover_checks width height allowance raster.now flash_room.now mark_room.now) }
+    ensures sheet { IfOk result (λ s. (s.size.width ≡ width) × (s.size.height ≡ height) × (copper_of s ≡ area_of width height raster.now)) }
 {
-    let sizes = sizes_checked(
+    let raster = sizes_checked(
         width,
         height,
         allowance,
         raster,
         flash_room.len(),
         mark_room.len(),
-    );
-    if sizes.number != answers::DONE {
-        return refused(sizes);
-    }
-    let size = Size {
-        width: width as usize,
-        height: height as usize,
+    )?;
+    Sheet::checked(raster)
+}
+
+// The cover of what has passed every check. Inlined, so that one frame serves it and the sheet.
+#[inline(always)]
+fn cover_sheet<S: Marking>(
+    sheet: &Sheet,
+    allowance: usize,
+    flash_room: &mut [u8],
+    mark_room: &mut [u8],
+) -> Outcome
+    requires { (allowance ≤ allowance_limit) × (flash_room_size ≤ length flash_room.old) × (mark_room_size ≤ length mark_room.old) }
+    ensures { record { outcome = result; flashes_after = flash_room.new; marks_after = mark_room.new }
+        ≡ answered (copper_of sheet.now) sheet.now.size.width sheet.now.size.height allowance flash_room.old mark_room.old }
+{
+    let last = last_line(sheet.size);
+    let edges = Edges {
+        bottoms: &sheet.bottoms,
+        ends: &sheet.ends,
     };
-    let mut bottoms = [0u8; limits::SIDE];
-    let mut ends = [0u8; limits::SIDE];
-    let bytes = columns_checked(size, raster, &mut bottoms, &mut ends);
-    if bytes.number != answers::DONE {
-        return refused(bytes);
+    let mut work = Table::empty(last);
+    put_starting(sheet.size, edges, &mut work);
+    let mut noted = [0u8; NOTES];
+    let flashes = final_marks::<S>(&mut work, &mut noted);
+    if allowance < flashes {
+        let marks = write_marks(last, edges, &noted, allowance + 1, mark_room);
+        return Outcome::short(marks);
     }
-    let job = Job {
-        size,
-        allowance: allowance as usize,
-    };
-    cover_columns(job, raster, &bottoms, &ends, flash_room, mark_room, search)
+    let flashed = write_flashes(edges, &work, flash_room);
+    let marks = write_marks(last, edges, &noted, limits::SIDE, mark_room);
+    let copper = heights(sheet.size.width, edges.bottoms, edges.ends);
+    Outcome::covered(copper, flashed, marks)
+}
+
+// The same for whoever has checked already.
+pub fn cover_area<S: Marking>(
+    raster: Raster,
+    allowance: usize,
+    flash_room: &mut [u8],
+    mark_room: &mut [u8],
+) -> Outcome
+    requires unbroken { Unbroken (area_in raster.size raster.bytes.now) }
+    requires lent { (allowance ≤ allowance_limit) × (flash_room_size ≤ length flash_room.old) × (mark_room_size ≤ length mark_room.old) }
+    ensures { record { outcome = result; flashes_after = flash_room.new; marks_after = mark_room.new }
+        ≡ answered (area_in raster.entry.size raster.entry.bytes.now) raster.entry.size.width raster.entry.size.height allowance flash_room.old mark_room.old }
+{
+    let sheet = Sheet::of(raster);
+    cover_sheet::<S>(&sheet, allowance, flash_room, mark_room)
+}
+
+// The checks, and then the cover by the search that is chosen.
+fn cover_checked<S: Marking>(
+    width: u64,
+    height: u64,
+    allowance: u64,
+    raster: &[u8],
+    flash_room: &mut [u8],
+    mark_room: &mut [u8],
+) -> Outcome
+    ensures { Gives width height allowance raster.now flash_room.old mark_room.old result flash_room.new mark_room.new }
+{
+    match checked(width, height, allowance, raster, flash_room, mark_room) {
+        Ok(sheet) => cover_sheet::<S>(&sheet, allowance as usize, flash_room, mark_room),
+        Err(refusal) => refusal.into(),
+    }
 }
 
 pub fn keekaboor_cover(
@@ -232,15 +209,7 @@ pub fn keekaboor_cover(
 ) -> Outcome
     ensures { Gives width height allowance raster.now flash_room.old mark_room.old result flash_room.new mark_room.new }
 {
-    cover_checked(
-        width,
-        height,
-        allowance,
-        raster,
-        flash_room,
-        mark_room,
-        Search::Swept,
-    )
+    cover_checked::<Swept>(width, height, allowance, raster, flash_room, mark_room)
 }
 
 // The same promise, by the plain search.
@@ -254,13 +223,5 @@ pub fn keekaboor_cover_plain(
 ) -> Outcome
     ensures { Gives width height allowance raster.now flash_room.old mark_room.old result flash_room.new mark_room.new }
 {
-    cover_checked(
-        width,
-        height,
-        allowance,
-        raster,
-        flash_room,
-        mark_room,
-        Search::Plain,
-    )
+    cover_checked::<Plain>(width, height, allowance, raster, flash_room, mark_room)
 }

@@ -4,4 +4,5 @@
 pub mod entry;
 pub mod flashes;
 pub mod marks;
+pub mod sheet;
 pub mod slices;

@@ -1,18 +1,20 @@
 // Slices, and the starting set (rule 1).
 ghost use Rattle.std.specs.Prelude.{◌≡◌, false, [], ◌<◌, ◌≤◌, length};
-ghost use Rattle.grid.specs.Limits.{side, lines};
+ghost use Rattle.grid.specs.Limits.{side};
 ghost use Rattle.grid.specs.Lines.{line, span_of};
-ghost use Rattle.grid.specs.Code.{Sized, area_in};
+ghost use Rattle.grid.specs.Code.{area_in};
 ghost use Rattle.words.specs.Words.{bits, on};
-ghost use Rattle.intervals.specs.Table.{Tabled, set_of, table_of};
+ghost use Rattle.intervals.specs.Table.{table_of};
+ghost use Rattle.intervals.specs.Spans.{spans};
 ghost use Rattle.cover.specs.Slices;
 ghost use Rattle.cover.specs.Slices.{copper_along};
-ghost use Rattle.cover.specs.Code.{Columned, Rowed, between, flipped_at, changing, with_changed};
+ghost use Rattle.cover.specs.Code.{Columned, Within, Rowed, between, flipped_at, changing, next_slice, with_changed};
 
+use crate::sheet::Edges;
 use grid::limits::LINES;
 use grid::lines::{Column, Interval, Line, Row};
-use grid::raster::{Size, is_copper};
-use intervals::{Table, table};
+use grid::raster::{Raster, Size};
+use intervals::Table;
 use words::{both, differing, flipped, last_off, next_off, next_on, spread};
 
 // The line to the right of the job's last column.
@@ -22,78 +24,87 @@ pub fn last_line(size: Size) -> Line
     Line(size.width)
 }
 
-pub fn copper_along(size: Size, raster: &[u8], row: Row, i: Interval) -> bool
-    requires { Sized size raster.now }
-    ensures { result ≡ copper_along (area_in size raster.now) row.0 (span_of i) }
+pub fn copper_along(raster: Raster, row: Row, i: Interval) -> bool
+    ensures { result ≡ copper_along (area_in raster.entry.size raster.entry.bytes.now) row.0 (span_of i) }
 {
     let first = i.left.column_after();
     let end = i.right.column_after();
-    for c in first.0..end.0 {
-        if !is_copper(size, raster, Column(c), row) {
-            return false;
-        }
-    }
-    true
+    (first.0..end.0).all(|c| raster.is_copper(Column(c), row))
 }
 
-// Turns one column of one row over.
-fn flip(rows: &mut [u64], y: usize, c: usize)
-    requires { (y < length rows.old) × (c < bits) }
-    ensures { Rowed (flipped_at y c rows.old) rows.new }
+// Turns each column over in the row that is given for it.
+fn flip(rows: &mut [u64], at: &[u8])
+    requires { Within (length rows.old) at.now × (length at.now ≤ bits) }
+    ensures { Rowed (flipped_at at.now (length at.now) rows.old) rows.new }
 {
-    rows[y] = flipped(rows[y], c);
+    for (c, &y) in at.iter().enumerate() {
+        let y = y as usize;
+        rows[y] = flipped(rows[y], c);
+    }
 }
 
-// For each row the columns whose copper begins or ends there: what changes from the row below.
-fn changes(width: usize, bottoms: &[u8], ends: &[u8], rows: &mut [u64])
-    requires columned { Columned width bottoms.now ends.now × (lines ≤ length rows.old) }
+// For each row the columns whose copper begins or ends there: what changes from the row below. Into rows of nothing, so that none are copied.
+fn changes(width: usize, edges: Edges, rows: &mut [u64; LINES])
+    requires columned { Columned width edges.bottoms.now edges.ends.now }
     requires rowed { Rowed (λ y c. false) rows.old }
-    ensures { Rowed (changing width bottoms.now ends.now) rows.new }
+    ensures { Rowed (changing width edges.entry.bottoms.now edges.entry.ends.now) rows.new }
 {
-    for c in 0..width {
-        flip(rows, bottoms[c] as usize, c);
-        flip(rows, ends[c] as usize, c);
+    flip(rows, &edges.bottoms[..width]);
+    flip(rows, &edges.ends[..width]);
+}
+
+// The row's next slice, from a line on, that has a touched column in it.
+fn next_slice(row: u64, touched: u64, last: Line, at: Line) -> Option<Interval>
+    requires { last.0 ≤ bits }
+    ensures { result ≡ next_slice (on row) (on touched) last.0 at.0 }
+{
+    let c = next_on(touched, at.0);
+    if last.0 <= c {
+        return None;
     }
+    // The run that holds c begins one past the last bare column before it.
+    Some(Interval {
+        left: Column(last_off(row, c)).left_line(),
+        right: Column(next_off(row, c)).left_line(),
+    })
 }
 
 // The slices of a row that have a change in them or beside them; every other slice the row below shows too.
-fn put_changed(last: Line, row: u64, changed: u64, t: &mut Table)
-    requires { Tabled last.0 t.old × (on row last.0 ≡ false) }
-    ensures { t.new ≡ table_of (with_changed last.0 (on row) (on changed) (set_of last.0 t.old)) }
+fn put_changed(t: &mut Table, row: u64, changed: u64)
+    requires { on row t.old.last.0 ≡ false }
+    ensures rows { t.new.rows ≡ table_of (with_changed t.old.last.0 (on row) (on changed) (spans t.old)) }
+    ensures last { t.new.last ≡ t.old.last }
 {
     let touched = both(spread(changed), row);
-    let mut at = 0;
-    loop {
-        let c = next_on(touched, at);
-        if last.0 <= c {
-            return;
-        }
-        // The run that holds c begins one past the last bare column before it.
-        let first = last_off(row, c);
-        let end = next_off(row, c);
-        let i = Interval {
-            left: Column(first).left_line(),
-            right: Column(end).left_line(),
-        };
-        table::put(t, last, i);
-        at = end;
+    let mut at = Line(0);
+    while let Some(slice) = next_slice(row, touched, t.last, at) {
+        t.put(slice);
+        at = slice.right;
     }
 }
 
-// The starting set, into an empty table: row after row, each by what changes from the row below.
-pub fn starting(size: Size, bottoms: &[u8], ends: &[u8], t: &mut Table)
-    requires columned { Columned size.width bottoms.now ends.now × (size.height ≤ side) }
-    requires t_value { t.old ≡ table_of [] }
-    ensures { t.new ≡ table_of (Slices.starting (between size.width bottoms.now ends.now) size.width size.height) }
+// The starting set into a table of no interval, row after row, each by what changes from the row below.
+pub fn put_starting(size: Size, edges: Edges, t: &mut Table)
+    requires columned { Columned size.width edges.bottoms.now edges.ends.now × (size.height ≤ side) }
+    requires empty { (t.old.rows ≡ table_of []) × (t.old.last ≡ line size.width) }
+    ensures rows { t.new.rows ≡ table_of (Slices.starting (between size.width edges.entry.bottoms.now edges.entry.ends.now) size.width size.height) }
+    ensures last { t.new.last ≡ line size.width }
 {
-    let last = last_line(size);
-    let h = size.height;
     let mut rows = [0u64; LINES];
-    changes(size.width, bottoms, ends, &mut rows);
+    changes(size.width, edges, &mut rows);
     let mut row: u64 = 0;
-    for y in 0..h {
-        let changed = rows[y];
+    for &changed in &rows[..size.height] {
         row = differing(row, changed);
-        put_changed(last, row, changed, t);
+        put_changed(t, row, changed);
     }
+}
+
+pub fn starting(size: Size, edges: Edges) -> Table
+    requires { Columned size.width edges.bottoms.now edges.ends.now × (size.height ≤ side) }
+    ensures rows { result.rows ≡ table_of (Slices.starting (between size.width edges.entry.bottoms.now edges.entry.ends.now) size.width size.height) }
+    ensures last { result.last ≡ line size.width }
+{
+    let mut t = Table::empty(last_line(size));
+    put_starting(size, edges, &mut t);
+    t
 }

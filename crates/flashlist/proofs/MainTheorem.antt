@@ -37,7 +37,7 @@ use Rattle.job.proofs.RoundTrip.{IsRead, IsWritten, read-then_write, write_then-
 use Rattle.job.proofs.read.keekaboor_read_job
 use Rattle.job.proofs.write.keekaboor_write_job
 use Rattle.flashlist.specs.Program.{printed_given, judged_text, cover_text, program_text}
-use Rattle.flashlist.proofs.Program.{as_text}
+use Rattle.printed.proofs.Forms.{as_text}
 use Rattle.flashlist.proofs.answer.answer
 
 -- The demands of one call of the cover: width w, height h, allowance k, what raster, flash room and mark room held, and what the call gave.

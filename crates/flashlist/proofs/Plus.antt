@@ -33,8 +33,8 @@ plus_text =
     ++ (114 ∷ 111 ∷ 119 ∷ 9 ∷ 48 ∷ 9 ∷ 46 ∷ 35 ∷ 46 ∷ 10 ∷ [])
 
 pub plus_prints : program_text plus_text ≡ five_lines
-unfolding grid_squares copper_number program_text judged shape_at line_at numbers_from line record_lines rows_from row_at raster_from row_line row_head rows_length text_length digits decimal run value begins
-    covered_inside dependent minimal outermost meets reduce leftmost reduced final held_once strike least found marked first_bad gap broken_from
+unfolding grid_squares copper_number program_text judged shape_at line_at numbers_from line record_lines rows_from row_at raster_from row_line row_head rows_length text_length digits decimal run value
+    begins covered_inside dependent minimal outermost meets reduce leftmost reduced final held_once strike least found marked first_bad gap broken_from
     ends_left ends_right copper_along slice shown lowest_shown starting flash flashes flashed_area mark by_column marks written or_else first_refusal or_work cover_gives
     printed
 plus_prints = refl

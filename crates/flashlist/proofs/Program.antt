@@ -1,22 +1,21 @@
 -- What was read and covered, printed, is the program's text.
 -- The reader's answer tells a refusal from a job; the job's raster is the front of the room it was read into. `print_cover` and `answer` stand on this.
-use mathlib.Core.Path.{◌≡◌, sym, ap, subst, ◌∙◌}
-use mathlib.Core.List.{List}
+use mathlib.Core.Path.{◌≡◌, refl, sym, ap, subst, ◌∙◌}
+use mathlib.Core.List.{List, []}
 use Prim.Native.Nat.{ℕ, ◌+◌, ◌*◌, ◌≤◌}
 use native.Mathlib.Omega.{arith}
 use native.Mathlib.Nat.{zero-add, mul_comm, mul-le-mul}
 use mathlib.Core.Logic.{by_cases}
 use native.Mathlib.Decide.{dec_le}
-use lib.ListN.{length, take, drop, length-append, length-take}
+use lib.ListN.{length, take, length-take}
 use lib.Seq.{take_all}
 use Rattle.grid.specs.Limits.{side, flash_room_size, mark_room_size, raster_room}
 use Rattle.grid.specs.declared.raster.Job.{Job}
-use Rattle.grid.specs.Rooms.{written, Written}
+use Rattle.grid.specs.Rooms.{written}
 use Rattle.grid.proofs.Writing.{through-written}
 use Rattle.job.specs.JobText.{text_room}
-use Rattle.job.specs.Reading.{judged, raster_from, read_outcome, ReadJob}
-use Rattle.job.specs.declared.read.Judged.{Judged}
-use Rattle.job.specs.declared.read.Judged.TheVariants.{Refused, Fine}
+use Rattle.std.specs.Prelude.{Ok, Err}
+use Rattle.job.specs.Reading.{Judged, judged, raster_from, read_outcome, ReadJob}
 use Rattle.job.specs.declared.read.ReadOutcome.{ReadOutcome}
 use Rattle.job.proofs.Rows.{length-raster}
 use Rattle.job.proofs.Judging.{long-text, judged-fine}
@@ -24,16 +23,9 @@ use Rattle.job.proofs.Outcomes.{ReadDone, read_done}
 use Rattle.cover.specs.Cover.{Given, Gives, cover_gives}
 use Rattle.cover.specs.declared.entry.Outcome.{Outcome}
 use Rattle.flashlist.proofs.Few.{few}
-use Rattle.printed.specs.Printed.{printed, print_room, Printable}
+use Rattle.printed.specs.Printed.{printed, print_room, refusal_line, Printable}
+use Rattle.printed.proofs.Forms.{print_alone}
 use Rattle.flashlist.specs.Program.{printed_given, cover_text, refusal_text, judged_text, program_text}
-
-pub as_text : {room after a b : List ℕ} {n : ℕ} → a ≡ b → Written room 0 a n after → Written room 0 b n after
-as_text {room} {after} {a} {b} {n} e w = subst (λ (t : List ℕ). Written room 0 t n after) e w
-
--- what was written stands in the room
-pub within : {room after bytes : List ℕ} {n : ℕ} → Written room 0 bytes n after → n ≤ length after
-unfolding written
-within {room} {after} {bytes} {n} w = omega (arith, w.past, ap length w.left, length-append bytes (drop (0 + length bytes) room))
 
 -- what a cover gives can be printed
 module _ (w h k : ℕ) (raster f m : List ℕ) (r : Outcome) (f' m' : List ℕ) (g : Gives w h k raster f m r f' m') where
@@ -47,10 +39,14 @@ module _ (w h k : ℕ) (raster f m : List ℕ) (r : Outcome) (f' m' : List ℕ) 
   pub given-text : printed r f' m' ≡ printed_given (cover_gives w h k raster f m)
   given-text = ap printed_given g
 
+-- a refusal's line is its print
+pub refused-line : (n x y : ℕ) → (n ≡ 0 → ⊥) → refusal_line (record { number = n; x = x; y = y }) ≡ refusal_text n x y
+refused-line n x y e = sym (print_alone (record { answer = n; place_x = x; place_y = y; flashes = 0; marks = 0; copper = 0; flashed = 0 }) [] [] e refl)
+
 -- a text that was refused
 refused-from : (text : List ℕ) (r : ReadOutcome) (j : Judged) → r ≡ read_outcome j → (r.answer ≡ 0 → ⊥) → refusal_text r.answer r.place_x r.place_y ≡ judged_text text j
-refused-from text r (Refused a) e n = ap (λ (x : ReadOutcome). refusal_text x.answer x.place_x x.place_y) e
-refused-from text r (Fine job spot) e n = absurd (n (ap (λ (x : ReadOutcome). x.answer) e))
+refused-from text r (Err a) e n = ap (λ (x : ReadOutcome). refusal_text x.answer x.place_x x.place_y) e
+refused-from text r (Ok (job, spot)) e n = absurd (n (ap (λ (x : ReadOutcome). x.answer) e))
 
 -- a text that was read as a job: the raster fits its room, and covering the front of the room gives the program's text
 pub record Ready (text : List ℕ) (r : ReadOutcome) (after : List ℕ) : Type 0 where
@@ -58,11 +54,11 @@ pub record Ready (text : List ℕ) (r : ReadOutcome) (after : List ℕ) : Type 0
   pub same : cover_text r.width r.height r.allowance (take (r.width * r.height) after) ≡ program_text text
 
 module _ (text room after : List ℕ) (r : ReadOutcome) (long : length room ≡ raster_room) (read : ReadJob text room r after) where
-  pub refused-text : (r.answer ≡ 0 → ⊥) → refusal_text r.answer r.place_x r.place_y ≡ program_text text
+  pub refused-text : (r.answer ≡ 0 → ⊥) → refusal_line (record { number = r.answer; x = r.place_x; y = r.place_y }) ≡ program_text text
   unfolding program_text
-  refused-text = refused-from text r (judged text raster_room) (read.outcome ∙ ap (λ (n : ℕ). read_outcome (judged text n)) long)
+  refused-text e = refused-line r.answer r.place_x r.place_y e ∙ refused-from text r (judged text raster_room) (read.outcome ∙ ap (λ (n : ℕ). read_outcome (judged text n)) long) e
 
-  fine-ready : (job : Job) (spot : ℕ) → ReadDone text room r after job spot → Ready text (read_outcome (Fine job spot)) after
+  fine-ready : (job : Job) (spot : ℕ) → ReadDone text room r after job spot → Ready text (read_outcome (Ok (job, spot))) after
   unfolding program_text
   fine-ready job spot d =
       let w : ℕ = job.size.width in

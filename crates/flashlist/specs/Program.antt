@@ -1,10 +1,8 @@
 -- What the cover program prints for a text on its standard input. "The cover program reads first, then covers."
-use Rattle.std.specs.Prelude.{List, [], ℕ, replicate}
+use Rattle.std.specs.Prelude.{List, [], ℕ, replicate, Ok, Err}
 use Rattle.grid.specs.Limits.{flash_room_size, mark_room_size, raster_room}
 use Rattle.grid.specs.Rooms.{Written}
-use Rattle.job.specs.Reading.{judged, raster_from}
-use Rattle.job.specs.declared.read.Judged.{Judged}
-use Rattle.job.specs.declared.read.Judged.TheVariants.{Refused, Fine}
+use Rattle.job.specs.Reading.{Judged, judged, raster_from}
 use Rattle.cover.specs.Cover.{Given, refused_at, cover_gives}
 use Rattle.printed.specs.Printed.{printed}
 
@@ -20,8 +18,8 @@ abbrev pub refusal_text : ℕ → ℕ → ℕ → List ℕ
 refusal_text n x y = printed_given (refused_at n x y [] [])
 
 abbrev pub judged_text : List ℕ → Judged → List ℕ
-judged_text text (Refused a) = refusal_text a.number a.x a.y
-judged_text text (Fine job spot) = cover_text job.size.width job.size.height job.allowance (raster_from text job.size.width job.size.height spot)
+judged_text text (Err a) = refusal_text a.number a.x a.y
+judged_text text (Ok (job, spot)) = cover_text job.size.width job.size.height job.allowance (raster_from text job.size.width job.size.height spot)
 
 unfoldable pub program_text : List ℕ → List ℕ
 program_text text = judged_text text (judged text raster_room)

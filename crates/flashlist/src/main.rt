@@ -12,6 +12,7 @@ use std::io;
 // One byte more than the longest job tells a longer text, so the program ends on endless input too.
 const READ_ROOM: usize = TEXT_ROOM + 1;
 
+#[tactic(auto, unfolding(text::specs::Decimal::decimal, text::specs::Decimal::digits))]
 fn main(rt: HostRuntime) -> io::Result<()> {
     let mut text = [0u8; READ_ROOM];
     let length = read_full(&mut rt.stdin(), &mut text)?;

@@ -8,14 +8,14 @@ use native.Mathlib.Omega.{arith}
 use lib.IntN.{ℤ, pos, negsuc}
 use lib.ListN.{length, take, drop}
 use lib.Seq.{take-append_seam, drop-append_seam}
-use Rattle.text.specs.Decimal.{digit, decimal, run, value, plain}
+use Rattle.text.specs.Decimal.{digit, decimal, run, value, plain, last_digits}
 use Rattle.text.specs.Signed.{minus, signed}
 use Rattle.text.specs.Words.{stands}
 use Rattle.text.proofs.Decimals.{value-decimal, all-decimal, plain-decimal}
 use Rattle.text.proofs.Inverse.{run-digits}
 use Rattle.text.proofs.Stands.{stands-front}
-use Rattle.gerber.specs.File.{last_digits, millimetres}
-use Rattle.gerber.proofs.Digits.{length_last}
+use Rattle.gerber.specs.File.{millimetres}
+use Rattle.text.proofs.Turns.{length_last}
 
 -- two texts that are equal, parted at the same place
 pub parted : (a b p q : List ℕ) → length a ≡ length b → a ++ p ≡ b ++ q → (a ≡ b) × (p ≡ q)
@@ -60,7 +60,8 @@ six_tenths n = omega arith
 pub length-apart : (m n : ℕ) (p q : List ℕ) → millimetres m ++ p ≡ millimetres n ++ q → (m ≡ n) × (p ≡ q)
 unfolding millimetres run
 length-apart m n p q e =
-    let c = number-apart (m / 10 ^ 6) (n / 10 ^ 6) (46 ∷ (last_digits 6 m ++ p)) (46 ∷ (last_digits 6 n ++ q)) refl refl (sym (append_assoc (decimal (m / 10 ^ 6)) (46 ∷ last_digits 6 m) p) ∙ e ∙ append_assoc (decimal (n / 10 ^ 6)) (46 ∷ last_digits 6 n) q) in
+    let c = number-apart (m / 10 ^ 6) (n / 10 ^ 6) (46 ∷ (last_digits 6 m ++ p)) (46 ∷ (last_digits 6 n ++ q)) refl refl
+    (sym (append_assoc (decimal (m / 10 ^ 6)) (46 ∷ last_digits 6 m) p) ∙ e ∙ append_assoc (decimal (n / 10 ^ 6)) (46 ∷ last_digits 6 n) q) in
     let d = parted (last_digits 6 m) (last_digits 6 n) p q (length_last 6 m ∙ sym (length_last 6 n)) (ap (drop 1) c.1) in
     (last_apart 6 m n d.0 (six_tenths m ∙ c.0 ∙ sym (six_tenths n)), d.1)
 

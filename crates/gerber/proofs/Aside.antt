@@ -89,7 +89,8 @@ module _ (w h k : ℕ) (raster f m f₁ m₁ : List ℕ) (lf : flash_room_size �
   refused-told : (a : Answer) → first_refusal (cover_checks w h k raster f₁ m₁) ≡ a → (Passes a → ⊥) → Told w h k raster f m (refused_at a.number a.x a.y f₁ m₁)
   unfolding cover_gives
   refused-told a e n = record {
-    lent = ap (λ b. or_work b f m (answered (area_of w h raster) w h k f m)) (same-checks ∙ e) ∙ refuses a f m _ n ∙ (λ i. record { outcome = (refused_at a.number a.x a.y f m).outcome; flashes_after = sym (written_none f 0) i; marks_after = sym (written_none m 0) i });
+    lent = ap (λ b. or_work b f m (answered (area_of w h raster) w h k f m)) (same-checks ∙ e) ∙ refuses a f m _ n
+        ∙ (λ i. record { outcome = (refused_at a.number a.x a.y f m).outcome; flashes_after = sym (written_none f 0) i; marks_after = sym (written_none m 0) i });
     few-flashes = omega arith;
     few-marks = omega arith;
     held = λ z. absurd (n z);
@@ -132,7 +133,13 @@ module _ (w h k : ℕ) (raster f m f₁ m₁ : List ℕ) (lf : flash_room_size �
             });
         few-flashes = few;
         few-marks = marked;
-        held = λ z. record { few = few; held = omega arith; drawn = λ j l. subst Drawn (sym (ap (λ ps. rectangle_at ps j) (flashes-read qs f₁)) ∙ flash-listed (length qs) room j l) (drawn (rectangle_at qs j) (in_at qs (record { first = 0; last = 0; bottom = 0; top = 0 }) j l)) };
+        held = λ z. record {
+          few = few;
+          held = omega arith;
+          drawn =
+              λ j l. subst Drawn (sym (ap (λ ps. rectangle_at ps j) (flashes-read qs f₁)) ∙ flash-listed (length qs) room j l)
+              (drawn (rectangle_at qs j) (in_at qs (record { first = 0; last = 0; bottom = 0; top = 0 }) j l));
+        };
         ruled = λ z. flashes-read qs f₁;
         none = λ z. absurd (z refl);
       }
@@ -143,7 +150,8 @@ module _ (w h k : ℕ) (raster f m f₁ m₁ : List ℕ) (lf : flash_room_size �
       let a = area_of w h raster in
       let inner : cover_gives w h k raster f₁ m₁ ≡ answered a w h k f₁ m₁ = works (first_refusal (cover_checks w h k raster f₁ m₁)) f₁ m₁ _ p in
       let outer : cover_gives w h k raster f m ≡ answered a w h k f m = works (first_refusal (cover_checks w h k raster f m)) f m _ (ap (λ (b : Answer). b.number) same-checks ∙ p) in
-      let q : Asked w h k raster f₁ m₁ = answered-asked w h k raster f₁ m₁ (subst (λ (g : Given). (g.outcome.answer ≡ 0) ⊎ (g.outcome.answer ≡ allowance_short)) (sym inner) (answered-either w h k raster f₁ m₁)) in
+      let q : Asked w h k raster f₁ m₁ =
+      answered-asked w h k raster f₁ m₁ (subst (λ (g : Given). (g.outcome.answer ≡ 0) ⊎ (g.outcome.answer ≡ allowance_short)) (sym inner) (answered-either w h k raster f₁ m₁)) in
       let few : length (flashes a w h) ≤ side = omega (arith, flashes-short a w h, q.wide) in
       let marked : length (marks a w h) ≤ side = omega (arith, marks-flashes a w h) in
       bcase (ltb k (length (flashes a w h)))
@@ -153,7 +161,8 @@ module _ (w h k : ℕ) (raster f m f₁ m₁ : List ℕ) (lf : flash_room_size �
       is-short : (f m : List ℕ) → ltb k (length (flashes (area_of w h raster) w h)) ≡ true → answered (area_of w h raster) w h k f m ≡ short (take (suc k) (marks (area_of w h raster) w h)) f m
       is-short f m u = rw u
 
-      is-covered : (f m : List ℕ) → ltb k (length (flashes (area_of w h raster) w h)) ≡ false → answered (area_of w h raster) w h k f m ≡ covered (copper_number (area_of w h raster) w h) (flashes (area_of w h raster) w h) (marks (area_of w h raster) w h) f m
+      is-covered : (f m : List ℕ) → ltb k (length (flashes (area_of w h raster) w h)) ≡ false → answered (area_of w h raster) w h k f m
+          ≡ covered (copper_number (area_of w h raster) w h) (flashes (area_of w h raster) w h) (marks (area_of w h raster) w h) f m
       is-covered f m u = rw u
 
       all-drawn : Asked w h k raster f₁ m₁ → (q : Rectangle) → In q (flashes (area_of w h raster) w h) → Drawn q

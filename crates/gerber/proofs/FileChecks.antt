@@ -1,6 +1,6 @@
 -- The file's checks as the code makes them are document 02's: version and pitch first, and then centres and room in turn.
 use mathlib.Core.Path.{◌≡◌, sym, ap, ◌∙◌}
-use mathlib.Core.Bool.{Bool, true}
+use mathlib.Core.Bool.{true, false}
 use mathlib.Core.List.{List, [], ◌∷◌}
 use Prim.Native.Nat.{ℕ, ◌≤◌}
 use native.Mathlib.Omega.{arith}
@@ -11,21 +11,20 @@ use borrow.Author.Tests.{leb-true}
 use Rattle.lists.specs.Lists.{up_to}
 use Rattle.lists.proofs.Ranges.{length_from}
 use Rattle.grid.specs.Limits.{file_room_size}
-use Rattle.grid.specs.Answers.{done, check, or_else, first_refusal, version_unknown, pitch_out, centre_out, file_room_short}
+use Rattle.grid.specs.Answers.{done, refused, check, first_refusal, answer_of, answered, version_unknown, pitch_out, centre_out, file_room_short}
 use Rattle.grid.specs.Squares.{Rectangle}
 use Rattle.grid.specs.declared.answers.Answer.{Answer}
-use Rattle.grid.proofs.Chain.{Passes, stands, gives_way, chain-passed, passed-chain, chain-append, check-passed, passed-check, check-plain, in_turn_lem}
+use Rattle.grid.specs.declared.answers.Refusal.{Refusal}
+use Rattle.grid.proofs.Chain.{Passes, chain-passed, passed-chain, chain-stops, chain-goes-on, check-goes-on, check-stops, check-passed, passed-check}
+use Rattle.std.specs.Prelude.{Result, Ok, Err}
 use Rattle.cover.specs.Records.{flash_in, flashes_in}
 use Rattle.gerber.specs.File.{version_known, pitch_fits, format_checks, centres_fit, gerber_file}
 use Rattle.gerber.specs.Writing.{file_checks}
 use Rattle.gerber.specs.Code.{FlashesHeld}
-use Rattle.gerber.proofs.Sizes.{held-drawn}
+use Rattle.gerber.proofs.GridSizes.{held-drawn}
 use Rattle.gerber.proofs.Longest.{longest_file, longest-fits, file-most}
 
 module _ (version pitch : ℕ) where
-  pub format_fits : Passes (first_refusal (format_checks version pitch)) → pitch_fits pitch ≡ true
-  format_fits p = check-passed (pitch_fits pitch) 12 (chain-passed (format_checks version pitch) p).1.0
-
   pub format_passes : version_known version ≡ true → pitch_fits pitch ≡ true → Passes (first_refusal (format_checks version pitch))
   format_passes v p =
       ap (λ (a : Answer). a.number) (passed-chain (format_checks version pitch) (passed-check (version_known version) version_unknown v, (passed-check (pitch_fits pitch) pitch_out p, tt)))
@@ -34,16 +33,23 @@ module _ (version pitch : ℕ) (x y : ℤ) (qs : List Rectangle) (room : ℕ) wh
   abbrev rest_checks : List Answer
   rest_checks = check (centres_fit pitch x y qs) centre_out ∷ check (leb file_room_size room) file_room_short ∷ []
 
-  pub format_refused : (Passes (first_refusal (format_checks version pitch)) → ⊥) → first_refusal (file_checks version pitch x y qs room) ≡ first_refusal (format_checks version pitch)
-  format_refused n = chain-append (format_checks version pitch) rest_checks ∙ stands (first_refusal (format_checks version pitch)) (first_refusal rest_checks) n
+  -- as the code makes them, each behind those before
+  module _ {T : Type 0} {r : Result T Refusal} (e : answered r ≡ first_refusal (format_checks version pitch)) where
+    pub format-stops : {s : Refusal} → r ≡ Err s → answer_of s ≡ first_refusal (file_checks version pitch x y qs room)
+    format-stops q = chain-stops (format_checks version pitch) rest_checks e q
 
-  pub checks-rest : {fit : Bool} {a b r : Answer} → Passes (first_refusal (format_checks version pitch)) → fit ≡ centres_fit pitch x y qs → a ≡ done → b ≡ or_else a (check fit centre_out)
-      → r ≡ or_else b (check (leb file_room_size room) file_room_short) → r ≡ first_refusal (file_checks version pitch x y qs room)
-  checks-rest {fit} p e f g h =
-      h
-      ∙ ap (λ z. or_else z (check (leb file_room_size room) file_room_short)) (g ∙ (λ i. or_else (f i) (check (e i) centre_out)))
-      ∙ in_turn_lem rest_checks (check-plain (centres_fit pitch x y qs) 13, (check-plain (leb file_room_size room) 14, tt))
-      ∙ sym (chain-append (format_checks version pitch) rest_checks ∙ gives_way (first_refusal (format_checks version pitch)) (first_refusal rest_checks) p)
+    module _ {t : T} (q : r ≡ Ok t) where
+      pub centre-stops : centres_fit pitch x y qs ≡ false → refused centre_out ≡ first_refusal (file_checks version pitch x y qs room)
+      centre-stops f = sym (chain-goes-on (format_checks version pitch) rest_checks e q ∙ check-stops (centres_fit pitch x y qs) 13 _ f)
+
+      pub room-stops : centres_fit pitch x y qs ≡ true → leb file_room_size room ≡ false → refused file_room_short ≡ first_refusal (file_checks version pitch x y qs room)
+      room-stops c f = sym (chain-goes-on (format_checks version pitch) rest_checks e q ∙ check-goes-on (centres_fit pitch x y qs) 14 _ c ∙ check-stops (leb file_room_size room) 14 [] f)
+
+      pub all-pass : centres_fit pitch x y qs ≡ true → leb file_room_size room ≡ true → done ≡ first_refusal (file_checks version pitch x y qs room)
+      unfolding first_refusal
+      all-pass c f =
+          sym (chain-goes-on (format_checks version pitch) rest_checks e q ∙ check-goes-on (centres_fit pitch x y qs) 14 (check (leb file_room_size room) file_room_short ∷ []) c
+          ∙ check-goes-on (leb file_room_size room) 15 [] f)
 
   -- what passes them all
   pub checks-passed : Passes (first_refusal (file_checks version pitch x y qs room)) → (pitch_fits pitch ≡ true) × (centres_fit pitch x y qs ≡ true) × (file_room_size ≤ room)

@@ -1,14 +1,14 @@
 -- The four ways out of `keekaboor_write_gerber`: a short room, the cover's refusal, a refusal of the file, and the file.
 use mathlib.Core.Path.{◌≡◌, sym, ap, ◌∙◌}
-use mathlib.Core.Bool.{false, ◌&&◌}
+use mathlib.Core.Bool.{Bool, true, false, ◌&&◌}
 use mathlib.Core.List.{List}
 use mathlib.Core.Logic.{inl}
-use Prim.Native.Nat.{ℕ, ◌*◌}
+use Prim.Native.Nat.{ℕ, ◌*◌, ◌≤◌}
 use lib.Dec.{leb}
 use lib.IntN.{ℤ}
 use lib.ListN.{length, take}
-use borrow.Author.Tests.{le-leb, eq-eqb, ne_eqb}
-use Rattle.lists.proofs.Truth.{never, and_both}
+use borrow.Author.Tests.{le-leb, leb-true, eq-eqb, ne_eqb}
+use Rattle.lists.proofs.Truth.{never, and_left, and_right, and_both}
 use Rattle.grid.specs.Limits.{flash_room_size, mark_room_size, flash_record, mark_record}
 use Rattle.grid.specs.Answers.{first_refusal}
 use Rattle.grid.specs.Raster.{area_of}
@@ -25,6 +25,12 @@ use Rattle.gerber.specs.File.{gerber_file}
 use Rattle.gerber.specs.Writing.{with_length, no_file, filed, file_checks, or_file, write_gives}
 use Rattle.gerber.proofs.Aside.{moved, Told}
 
+-- both rooms are long enough
+pub rooms-hold : (f m : ℕ) {b : Bool} → b ≡ (leb flash_room_size f && leb mark_room_size m) → b ≡ true → (flash_room_size ≤ f) × (mark_room_size ≤ m)
+rooms-hold f m e t =
+    let u = sym e ∙ t in
+    (leb-true flash_room_size f (and_left (leb flash_room_size f) (leb mark_room_size m) u), leb-true mark_room_size m (and_right (leb flash_room_size f) (leb mark_room_size m) u))
+
 module _ (w h k : ℕ) (raster : List ℕ) (version pitch : ℕ) (x y : ℤ) (f m t : List ℕ) where
   -- what the cover refuses
   pub not_covered : ((cover_gives w h k raster f m).outcome.answer ≡ 0 → ⊥) → write_gives w h k raster version pitch x y f m t ≡ no_file (cover_gives w h k raster f m) t
@@ -33,11 +39,13 @@ module _ (w h k : ℕ) (raster : List ℕ) (version pitch : ℕ) (x y : ℤ) (f 
 
   is-covered : (cover_gives w h k raster f m).outcome.answer ≡ 0
       → write_gives w h k raster version pitch x y f m t
-      ≡ or_file (first_refusal (file_checks version pitch x y (flashes (area_of w h raster) w h) (length t))) (cover_gives w h k raster f m) f m t (gerber_file version pitch x y (flashes (area_of w h raster) w h))
+      ≡ or_file (first_refusal (file_checks version pitch x y (flashes (area_of w h raster) w h) (length t))) (cover_gives w h k raster f m) f m t
+      (gerber_file version pitch x y (flashes (area_of w h raster) w h))
   unfolding write_gives
   is-covered e = rw (eq-eqb (cover_gives w h k raster f m).outcome.answer 0 e)
 
-  pub write_short : {g : Cover.Given} → g ≡ cover_gives w h k raster f m → (leb flash_room_size (length f) && leb mark_room_size (length m)) ≡ false → no_file g t ≡ write_gives w h k raster version pitch x y f m t
+  pub write_short : {g : Cover.Given} → g ≡ cover_gives w h k raster f m → (leb flash_room_size (length f) && leb mark_room_size (length m)) ≡ false → no_file g t
+      ≡ write_gives w h k raster version pitch x y f m t
   write_short e u =
       ap (λ (g : Cover.Given). no_file g t) e
       ∙ sym (not_covered (λ z.
@@ -65,7 +73,8 @@ module _ (w h k : ℕ) (raster : List ℕ) (version pitch : ℕ) (x y : ℤ) (f 
             ∙ ap (λ qs. or_file (first_refusal (file_checks version pitch x y qs (length t))) (cover_gives w h k raster f m) f m t (gerber_file version pitch x y qs)) (sym (T.ruled z))
             ∙ (λ i. or_file (sym e i) (T.lent i) f m t (gerber_file version pitch x y (flashes_in g.outcome.flashes g.flashes_after)))
 
-        pub write_refused : (a.number ≡ 0 → ⊥) → record { outcome = with_length (outcome_of a) 0; flashes_after = f; marks_after = m; file_after = t } ≡ write_gives w h k raster version pitch x y f m t
+        pub write_refused : (a.number ≡ 0 → ⊥) → record { outcome = with_length (outcome_of a) 0; flashes_after = f; marks_after = m; file_after = t }
+            ≡ write_gives w h k raster version pitch x y f m t
         unfolding or_file
         write_refused n = sym (given ∙ rw (ne_eqb a.number 0 n))
 

@@ -77,7 +77,8 @@ module _ (w h k : ℕ) (raster : List ℕ) (pitch : ℕ) (x y : ℤ) (f m t : Li
   checked version = first_refusal (file_checks version pitch x y listed (length t))
 
   -- the file of a call that was not refused
-  filed-front : (version : ℕ) → Told w h k raster f m covered → covered.outcome.answer ≡ 0 → Passes (checked version) → file_of (filed (moved f m covered) t (gerber_file version pitch x y listed)) ≡ first_line version ++ rest
+  filed-front : (version : ℕ) → Told w h k raster f m covered → covered.outcome.answer ≡ 0 → Passes (checked version)
+      → file_of (filed (moved f m covered) t (gerber_file version pitch x y listed)) ≡ first_line version ++ rest
   filed-front version T z p =
       file-front t (gerber_file version pitch x y listed) (file-fits version pitch x y covered.outcome.flashes covered.flashes_after (length t) (T.held z) p)
       ∙ first_alone version pitch x y listed
@@ -86,7 +87,9 @@ module _ (w h k : ℕ) (raster : List ℕ) (pitch : ℕ) (x y : ℤ) (f m t : Li
   module _ (v v' : ℕ) (known : version_known v ≡ true) (known' : version_known v' ≡ true) where
     checked-same : checked v ≡ checked v'
     checked-same =
-        ap (λ (b : Bool). first_refusal (check b version_unknown ∷ check (pitch_fits pitch) pitch_out ∷ check (centres_fit pitch x y listed) centre_out ∷ check (leb file_room_size (length t)) file_room_short ∷ [])) (known ∙ sym known')
+        ap (λ (b : Bool). first_refusal
+        (check b version_unknown ∷ check (pitch_fits pitch) pitch_out ∷ check (centres_fit pitch x y listed) centre_out ∷ check (leb file_room_size (length t)) file_room_short ∷ []))
+        (known ∙ sym known')
 
     abbrev Both : Given → Given → Type 0
     Both g g' = Alike v v' rest g g'

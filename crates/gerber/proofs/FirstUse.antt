@@ -8,7 +8,8 @@ use borrow.Author.Tests.{eq-eqb, eqb-true}
 use Rattle.lists.specs.Lists.{any}
 use Rattle.lists.proofs.Truth.{bcase, agree, never, and_left, and_right, and_both}
 use Rattle.grid.specs.Squares.{Rectangle}
-use Rattle.gerber.specs.File.{Size, size_of, is_same_size, added, used, apertures}
+use Rattle.gerber.specs.File.{size_of, is_same_size, added, used, apertures}
+use Rattle.gerber.specs.declared.sizes.Size.{Size}
 
 pub same_self : (s : Size) → is_same_size s s ≡ true
 same_self s = and_both (eqb s.wide s.wide) (eqb s.high s.high) (eq-eqb s.wide s.wide refl) (eq-eqb s.high s.high refl)

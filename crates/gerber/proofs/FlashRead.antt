@@ -1,16 +1,14 @@
 -- A flash read part by part: its letter, the square of its coordinate along each axis. `read_flash` goes by the four laws.
 -- A coordinate that stands at a spot is that of one square alone, so the first square found across is the flash's.
 use mathlib.Core.Path.{◌≡◌, refl, sym, ap, ◌∙◌}
-use mathlib.Core.Bool.{Bool, true, false, cond, ◌&&◌}
-use mathlib.Core.List.{List, [], ◌∷◌, ◌++◌, append_assoc}
+use mathlib.Core.Bool.{Bool, true, false, ◌&&◌}
+use mathlib.Core.List.{List, ◌++◌, append_assoc}
 use mathlib.Core.Option.{Option, none, some}
-use Prim.Native.Nat.{ℕ, zero, suc, ◌+◌, ◌-◌, ◌≤◌, ◌<◌}
+use Prim.Native.Nat.{ℕ, suc, ◌+◌, ◌-◌, ◌≤◌, ◌<◌}
 use native.Mathlib.Omega.{arith}
-use lib.Dec.{ltb}
 use lib.IntN.{ℤ}
-use lib.ListN.{length, take, drop, get_or, length-append}
-use lib.Seq.{get_or-take}
-use borrow.Author.Tests.{lt-ltb}
+use lib.ListN.{length, drop, length-append}
+use Rattle.std.specs.Option.{ok_or}
 use Rattle.lists.specs.Lists.{first, up_to}
 use Rattle.lists.proofs.Truth.{fails, never, and_left, and_right, and_both}
 use Rattle.lists.proofs.Members.{In, first-only, none_first, first_found, first-none}
@@ -20,19 +18,16 @@ use Rattle.grid.specs.Limits.{side, lines}
 use Rattle.grid.specs.Squares.{Rectangle}
 use Rattle.text.specs.Decimal.{run}
 use Rattle.text.specs.Signed.{signed}
-use Rattle.text.specs.declared.read.Next.TheVariants.{Spot, Nothing}
+use Rattle.std.specs.Prelude.{Option as Maybe, Some, None, Ok, Err}
 use Rattle.text.specs.Words.{stands, word_at}
 use Rattle.text.proofs.Passes.{found-spot}
 use Rattle.text.proofs.Stands.{stands-append, stands-front}
-use Rattle.gerber.specs.File.{Size, bytes, flash_line, centre, centre_line, coordinate_in_range, centre_fits, pitch_fits}
-use Rattle.gerber.specs.Code.{coded_size, coded_sizes}
-use Rattle.gerber.specs.Reading.{placed, placements, size_at, placed_at, flash_at, flash_turn}
-use Rattle.gerber.specs.Parts.{square_at, found_square, flash_is, turn_of}
-use Rattle.gerber.specs.declared.found.Found.{Found}
-use Rattle.gerber.specs.declared.found.Found.TheVariants.{At, Nothing as NotFound}
+use Rattle.gerber.specs.File.{bytes, flash_line, centre, centre_line, coordinate_in_range, centre_fits, pitch_fits}
+use Rattle.gerber.specs.declared.sizes.Size.{Size}
+use Rattle.gerber.specs.Reading.{placed, placements, size_at, placed_at, on_current, flash_at, flash_turn}
+use Rattle.gerber.specs.Parts.{square_at, found_square, flash_is, flash_found, bad_line, turn_of}
+use Rattle.cover.specs.declared.flashes.Flash.{Flash}
 use Rattle.gerber.specs.declared.turns.Reached.{Reached}
-use Rattle.gerber.specs.declared.turns.Turn.{Turn}
-use Rattle.gerber.specs.declared.turns.Turn.TheVariants.{Flash as FlashTurn, Bad}
 use Rattle.gerber.proofs.Compared.{found_nothing}
 use Rattle.gerber.proofs.ApertureRead.{not_found, found_at}
 use Rattle.gerber.proofs.Apart.{both_stand, coordinate_apart}
@@ -105,8 +100,11 @@ module _ (pitch : ℕ) (fits : pitch_fits pitch ≡ true) (x y : ℤ) (t : List 
       let l : Bool = stands t i (bytes "X") in
       let a : Bool = stands t (i + 1) (signed (across c) ++ bytes "Y") in
       let b : Bool = stands t (up c) (signed (upward r) ++ bytes "D03*\n") in
-      let s : line ≡ true = parts c r ∙ and_both l (a && b) p.letter (and_both a b (and_right (coordinate_in_range (across c)) a p.first_part) (and_right (coordinate_in_range (upward r)) b p.second-part)) in
-      and_both line (centre_fits pitch x y (placed z c r)) s (and_both (coordinate_in_range (across c)) (coordinate_in_range (upward r)) (and_left (coordinate_in_range (across c)) a p.first_part) (and_left (coordinate_in_range (upward r)) b p.second-part))
+      let s : line ≡ true = parts c r
+      ∙ and_both l (a && b) p.letter (and_both a b (and_right (coordinate_in_range (across c)) a p.first_part) (and_right (coordinate_in_range (upward r)) b p.second-part)) in
+      and_both line (centre_fits pitch x y (placed z c r)) s
+      (and_both (coordinate_in_range (across c)) (coordinate_in_range (upward r)) (and_left (coordinate_in_range (across c)) a p.first_part)
+      (and_left (coordinate_in_range (upward r)) b p.second-part))
 
   -- one column alone
   one-column : (c d : ℕ) → column c ≡ true → column d ≡ true → c ≡ d
@@ -116,7 +114,8 @@ module _ (pitch : ℕ) (fits : pitch_fits pitch ≡ true) (x y : ℤ) (t : List 
       let r = and_right (coordinate_in_range (across d)) (stands t (i + 1) (signed (across d) ++ bytes "Y")) b in
       let p : List ℕ = drop (i + 1 + length (signed (across c) ++ bytes "Y")) t in
       let q : List ℕ = drop (i + 1 + length (signed (across d) ++ bytes "Y")) t in
-      let e = sym (append_assoc (signed (across c)) (bytes "Y") p) ∙ both_stand t (i + 1) (signed (across c) ++ bytes "Y") (signed (across d) ++ bytes "Y") s r ∙ append_assoc (signed (across d)) (bytes "Y") q in
+      let e = sym (append_assoc (signed (across c)) (bytes "Y") p) ∙ both_stand t (i + 1) (signed (across c) ++ bytes "Y") (signed (across d) ++ bytes "Y") s r
+      ∙ append_assoc (signed (across d)) (bytes "Y") q in
       centre-apart pitch x c d z.wide (least_pitch pitch fits) w (coordinate_apart (across c) (across d) (bytes "Y" ++ p) (bytes "Y" ++ q) refl refl e).0
 
   -- none where no square passes
@@ -153,85 +152,100 @@ module _ (pitch : ℕ) (fits : pitch_fits pitch ≡ true) (x y : ℤ) (t : List 
       (λ q n v.
       let g = in_placed (suc side) z q n in
       let v' : test (placed z g.0 g.1) ≡ true = ap test (sym g.2) ∙ v in
-      g.2 ∙ placed-apart pitch fits x y t z g.0 g.1 c r i (drop (i + length (centre_line pitch x y (placed z c r))) t) w h (stands-front t i (centre_line pitch x y (placed z c r)) s) (and_left (stands t i (centre_line pitch x y (placed z g.0 g.1))) (centre_fits pitch x y (placed z g.0 g.1)) v'))
+      g.2 ∙ placed-apart pitch fits x y t z g.0 g.1 c r i (drop (i + length (centre_line pitch x y (placed z c r))) t) w h (stands-front t i (centre_line pitch x y (placed z c r)) s)
+      (and_left (stands t i (centre_line pitch x y (placed z g.0 g.1))) (centre_fits pitch x y (placed z g.0 g.1)) v'))
 
--- what was found, by the origin that the code has
-pub square-read : (t : List ℕ) (i pitch n : ℕ) (close : List ℕ) {o o' : ℤ} {r f : Found} → o' ≡ o → r ≡ found_square t i pitch o' n close → r ≡ f → found_square t i pitch o n close ≡ f
-square-read t i pitch n close e a b = sym (ap (λ (o : ℤ). found_square t i pitch o n close) e) ∙ sym a ∙ b
+-- what was found, by the pitch and the origin that the code has
+pub square-read : (t : List ℕ) (i n : ℕ) (close : List ℕ) {pitch pitch' : ℕ} {o o' : ℤ} {r f : Maybe (ℕ × ℕ)} → (pitch' ≡ pitch) × (o' ≡ o) → r ≡ found_square t i pitch' o' n close → r ≡ f
+    → found_square t i pitch o n close ≡ f
+square-read t i n close e a b = sym (λ j. found_square t i (e.0 j) (e.1 j) n close) ∙ sym a ∙ b
 
 -- a square that is found lies on the grid
-pub square_bound : (t : List ℕ) (i pitch : ℕ) (o : ℤ) (n : ℕ) (close : List ℕ) {a j : ℕ} → found_square t i pitch o n close ≡ At a j → a < lines - n
+pub square_bound : (t : List ℕ) (i pitch : ℕ) (o : ℤ) (n : ℕ) (close : List ℕ) {a j : ℕ} → found_square t i pitch o n close ≡ Some (a, j) → a < lines - n
 unfolding found_square
 square_bound t i pitch o n close e =
     let f = found_at (first (λ a. square_at t i (centre pitch o a (a + n - 1)) close) (up_to (lines - n))) (λ a. i + length (signed (centre pitch o a (a + n - 1)) ++ close)) e in
     omega (arith, (first-within (λ a. square_at t i (centre pitch o a (a + n - 1)) close) 0 (lines - n) f.0).1)
 
--- the turn of a flash, as the code finds its parts
-module _ (pitch : ℕ) (fits : pitch_fits pitch ≡ true) (x y : ℤ) (t : List ℕ) (z : Size) (w : 1 ≤ z.wide) (h : 1 ≤ z.high) (s : Reached) where
-  letter_there : {i : ℕ} → word_at t s.at (bytes "X") ≡ Spot i → (stands t s.at (bytes "X") ≡ true) × (s.at + 1 ≡ i)
+-- a flash of a size at a spot, as the code finds its parts
+module _ (pitch : ℕ) (fits : pitch_fits pitch ≡ true) (x y : ℤ) (t : List ℕ) (z : Size) (w : 1 ≤ z.wide) (h : 1 ≤ z.high) (spot : ℕ) where
+  letter_there : {i : ℕ} → word_at t spot (bytes "X") ≡ Some i → (stands t spot (bytes "X") ≡ true) × (spot + 1 ≡ i)
   unfolding word_at
-  letter_there e = found-spot (stands t s.at (bytes "X")) (s.at + 1) e
+  letter_there e = found-spot (stands t spot (bytes "X")) (spot + 1) e
 
-  column-none : found_square t (s.at + 1) pitch x z.wide (bytes "Y") ≡ NotFound → first (column pitch fits x y t z w h s.at) (up_to (suc side - z.wide)) ≡ none
+  column-none : found_square t (spot + 1) pitch x z.wide (bytes "Y") ≡ None → first (column pitch fits x y t z w h spot) (up_to (suc side - z.wide)) ≡ none
   unfolding found_square
-  column-none e = not_found (first (column pitch fits x y t z w h s.at) (up_to (lines - z.wide))) (up pitch fits x y t z w h s.at) e
+  column-none e = not_found (first (column pitch fits x y t z w h spot) (up_to (lines - z.wide))) (up pitch fits x y t z w h spot) e
 
-  column-some : {c j : ℕ} → found_square t (s.at + 1) pitch x z.wide (bytes "Y") ≡ At c j
-      → (first (column pitch fits x y t z w h s.at) (up_to (suc side - z.wide)) ≡ some c) × (up pitch fits x y t z w h s.at c ≡ j)
+  column-some : {c j : ℕ} → found_square t (spot + 1) pitch x z.wide (bytes "Y") ≡ Some (c, j)
+      → (first (column pitch fits x y t z w h spot) (up_to (suc side - z.wide)) ≡ some c) × (up pitch fits x y t z w h spot c ≡ j)
   unfolding found_square
-  column-some e = found_at (first (column pitch fits x y t z w h s.at) (up_to (lines - z.wide))) (up pitch fits x y t z w h s.at) e
+  column-some e = found_at (first (column pitch fits x y t z w h spot) (up_to (lines - z.wide))) (up pitch fits x y t z w h spot) e
 
-  row-none : (i : ℕ) → found_square t i pitch y z.high (bytes "D03*\n") ≡ NotFound → first (row pitch fits x y t z w h s.at i) (up_to (suc side - z.high)) ≡ none
+  row-none : (i : ℕ) → found_square t i pitch y z.high (bytes "D03*\n") ≡ None → first (row pitch fits x y t z w h spot i) (up_to (suc side - z.high)) ≡ none
   unfolding found_square
-  row-none i e = not_found (first (row pitch fits x y t z w h s.at i) (up_to (lines - z.high))) (λ r. i + length (signed (upward pitch fits x y t z w h s.at r) ++ bytes "D03*\n")) e
+  row-none i e = not_found (first (row pitch fits x y t z w h spot i) (up_to (lines - z.high))) (λ r. i + length (signed (upward pitch fits x y t z w h spot r) ++ bytes "D03*\n")) e
 
-  row-some : (i : ℕ) {r j : ℕ} → found_square t i pitch y z.high (bytes "D03*\n") ≡ At r j
-      → (first (row pitch fits x y t z w h s.at i) (up_to (suc side - z.high)) ≡ some r) × (i + length (signed (upward pitch fits x y t z w h s.at r) ++ bytes "D03*\n") ≡ j)
+  row-some : (i : ℕ) {r j : ℕ} → found_square t i pitch y z.high (bytes "D03*\n") ≡ Some (r, j)
+      → (first (row pitch fits x y t z w h spot i) (up_to (suc side - z.high)) ≡ some r) × (i + length (signed (upward pitch fits x y t z w h spot r) ++ bytes "D03*\n") ≡ j)
   unfolding found_square
-  row-some i e = found_at (first (row pitch fits x y t z w h s.at i) (up_to (lines - z.high))) (λ r. i + length (signed (upward pitch fits x y t z w h s.at r) ++ bytes "D03*\n")) e
+  row-some i e = found_at (first (row pitch fits x y t z w h spot i) (up_to (lines - z.high))) (λ r. i + length (signed (upward pitch fits x y t z w h spot r) ++ bytes "D03*\n")) e
 
-  -- what the turn is
-  abbrev turn : Option Rectangle → Turn
-  turn o = turn_of (flash_turn pitch x y s o)
+  -- what is found
+  abbrev told : Option Rectangle → Maybe (Flash × ℕ)
+  told o = flash_found o (λ q. spot + length (centre_line pitch x y q))
 
-  pub letter_missing : word_at t s.at (bytes "X") ≡ Nothing → Bad s.line ≡ turn (placed_at pitch x y t z s.at)
+  pub letter_missing : word_at t spot (bytes "X") ≡ None → None ≡ told (placed_at pitch x y t z spot)
   unfolding word_at
-  letter_missing e = sym (ap turn (no_letter pitch fits x y t z w h s.at (found_nothing (stands t s.at (bytes "X")) (s.at + 1) e)))
+  letter_missing e = sym (ap told (no_letter pitch fits x y t z w h spot (found_nothing (stands t spot (bytes "X")) (spot + 1) e)))
 
-  module _ {i : ℕ} (l : word_at t s.at (bytes "X") ≡ Spot i) where
-    pub column-missing : found_square t i pitch x z.wide (bytes "Y") ≡ NotFound → Bad s.line ≡ turn (placed_at pitch x y t z s.at)
-    column-missing e = sym (ap turn (no_column pitch fits x y t z w h s.at (column-none (ap (λ (i : ℕ). found_square t i pitch x z.wide (bytes "Y")) (letter_there l).1 ∙ e))))
+  module _ {i : ℕ} (l : word_at t spot (bytes "X") ≡ Some i) where
+    pub column-missing : found_square t i pitch x z.wide (bytes "Y") ≡ None → None ≡ told (placed_at pitch x y t z spot)
+    column-missing e = sym (ap told (no_column pitch fits x y t z w h spot (column-none (ap (λ (i : ℕ). found_square t i pitch x z.wide (bytes "Y")) (letter_there l).1 ∙ e))))
 
-    module _ {c j : ℕ} (e : found_square t i pitch x z.wide (bytes "Y") ≡ At c j) where
-      there : (first (column pitch fits x y t z w h s.at) (up_to (suc side - z.wide)) ≡ some c) × (up pitch fits x y t z w h s.at c ≡ j)
+    module _ {c j : ℕ} (e : found_square t i pitch x z.wide (bytes "Y") ≡ Some (c, j)) where
+      there : (first (column pitch fits x y t z w h spot) (up_to (suc side - z.wide)) ≡ some c) × (up pitch fits x y t z w h spot c ≡ j)
       there = column-some (ap (λ (i : ℕ). found_square t i pitch x z.wide (bytes "Y")) (letter_there l).1 ∙ e)
 
-      pub row-missing : found_square t j pitch y z.high (bytes "D03*\n") ≡ NotFound → Bad s.line ≡ turn (placed_at pitch x y t z s.at)
+      pub row-missing : found_square t j pitch y z.high (bytes "D03*\n") ≡ None → None ≡ told (placed_at pitch x y t z spot)
       row-missing f =
-          sym (ap turn (no_row pitch fits x y t z w h s.at there.0 (row-none (up pitch fits x y t z w h s.at c) (ap (λ (i : ℕ). found_square t i pitch y z.high (bytes "D03*\n")) there.1 ∙ f))))
+          sym (ap told (no_row pitch fits x y t z w h spot there.0 (row-none (up pitch fits x y t z w h spot c) (ap (λ (i : ℕ). found_square t i pitch y z.high (bytes "D03*\n")) there.1 ∙ f))))
 
-      pub both-there : {r end : ℕ} → found_square t j pitch y z.high (bytes "D03*\n") ≡ At r end
-          → FlashTurn (flash_is (placed z c r)) (record { line = s.line + 1; at = end; used = s.used; current = s.current }) ≡ turn (placed_at pitch x y t z s.at)
+      pub both-there : {r end : ℕ} → found_square t j pitch y z.high (bytes "D03*\n") ≡ Some (r, end) → Some (flash_is (placed z c r), end) ≡ told (placed_at pitch x y t z spot)
       both-there {r} {end} f =
-          let g = row-some (up pitch fits x y t z w h s.at c) (ap (λ (i : ℕ). found_square t i pitch y z.high (bytes "D03*\n")) there.1 ∙ f) in
-          let n : end ≡ s.at + length (centre_line pitch x y (placed z c r)) = sym g.1 ∙ flash-past pitch fits x y t z w h s.at c r in
-          ap (λ (k : ℕ). FlashTurn (flash_is (placed z c r)) (record { line = s.line + 1; at = k; used = s.used; current = s.current })) n
-          ∙ sym (ap turn (flash-found pitch fits x y t z w h s.at (letter_there l).0 there.0 g.0))
+          let g = row-some (up pitch fits x y t z w h spot c) (ap (λ (i : ℕ). found_square t i pitch y z.high (bytes "D03*\n")) there.1 ∙ f) in
+          let n : end ≡ spot + length (centre_line pitch x y (placed z c r)) = sym g.1 ∙ flash-past pitch fits x y t z w h spot c r in
+          ap (λ (k : ℕ). Some (flash_is (placed z c r), k)) n
+          ∙ sym (ap told (flash-found pitch fits x y t z w h spot (letter_there l).0 there.0 g.0))
 
--- the current aperture's size, from the number that is kept of it
-pub coded_at : (ms : List ℕ) (k : ℕ) → size_at (coded_sizes ms) k ≡ coded_size (get_or ms k 0)
-coded_at [] k = refl
-coded_at (m ∷ ms) zero = refl
-coded_at (m ∷ ms) (suc k) = coded_at ms k
+-- the turn of a flash: what is found of it, and which size it has
+module _ (pitch : ℕ) (x y : ℤ) (s : Reached) where
+  pub turn-none : (o : Option Rectangle) → flash_found o (λ q. s.at + length (centre_line pitch x y q)) ≡ None → Err (bad_line s.line) ≡ turn_of (flash_turn pitch x y s o)
+  turn-none none e = refl
+  turn-none (some q) e = let z : ◌≡◌ {A = ℕ} 0 1 = cc in absurd (omega arith)
 
-module _ (pitch : ℕ) (x y : ℤ) (t : List ℕ) (count : ℕ) (table : List ℕ) (s : Reached) where
-  pub none_current : s.used ≡ 0 → Bad s.line ≡ turn_of (flash_turn pitch x y s (flash_at pitch x y t (coded_sizes (take count table)) s))
-  unfolding flash_at
-  none_current e = let u : ltb 0 s.used ≡ false = ap (ltb 0) e in rw u refl
+  pub turn-some : (o : Option Rectangle) {f : Flash} {at : ℕ} → flash_found o (λ q. s.at + length (centre_line pitch x y q)) ≡ Some (f, at)
+      → Ok (Some (f, record { line = s.line + 1; at = at; used = s.used; current = s.current })) ≡ turn_of (flash_turn pitch x y s o)
+  turn-some none e = let z : ◌≡◌ {A = ℕ} 0 1 = cc in absurd (omega arith)
+  turn-some (some q) {f} {at} e =
+      let p : ◌≡◌ {A = Flash × ℕ} (f, at) (flash_is q, s.at + length (centre_line pitch x y q)) = cc in
+      ap (λ (r : Flash × ℕ). Ok (Some (r.0, record { line = s.line + 1; at = r.1; used = s.used; current = s.current }))) p
 
-  pub one_current : 0 < s.used → s.current < count → flash_at pitch x y t (coded_sizes (take count table)) s ≡ placed_at pitch x y t (coded_size (get_or table s.current 0)) s.at
-  unfolding flash_at
-  one_current u h =
-      let z : size_at (coded_sizes (take count table)) s.current ≡ coded_size (get_or table s.current 0) = coded_at (take count table) s.current ∙ ap coded_size (get_or-take count table s.current 0 h) in
-      let b : ltb 0 s.used ≡ true = lt-ltb 0 s.used u in
-      ap (λ (b : Bool). cond b (placed_at pitch x y t (size_at (coded_sizes (take count table)) s.current) s.at) none) b ∙ ap (λ (z : Size). placed_at pitch x y t z s.at) z
+  module _ (t : List ℕ) (sizes : List Size) where
+    pub none_current : s.current ≡ None → Err (bad_line s.line) ≡ turn_of (flash_turn pitch x y s (flash_at pitch x y t sizes s))
+    unfolding flash_at
+    none_current e = sym (ap (λ (o : Maybe ℕ). turn_of (flash_turn pitch x y s (on_current o (λ k. placed_at pitch x y t (size_at sizes k) s.at)))) e)
+
+    pub one_current : {k : ℕ} → s.current ≡ Some k → flash_at pitch x y t sizes s ≡ placed_at pitch x y t (size_at sizes k) s.at
+    unfolding flash_at
+    one_current u = ap (λ (o : Maybe ℕ). on_current o (λ k. placed_at pitch x y t (size_at sizes k) s.at)) u
+
+-- a flash, or the line's number
+module _ {A B : Type 0} where
+  pub refused-none : (o : Maybe A) (b : B) {c : B} → ok_or o b ≡ Err c → (o ≡ None) × (b ≡ c)
+  refused-none None b e = (refl, cc)
+  refused-none (Some a) b e = let z : ◌≡◌ {A = ℕ} 0 1 = cc in absurd (omega arith)
+
+  pub passed-some : (o : Maybe A) (b : B) {a : A} → ok_or o b ≡ Ok a → o ≡ Some a
+  passed-some None b e = let z : ◌≡◌ {A = ℕ} 0 1 = cc in absurd (omega arith)
+  passed-some (Some a) b e = cc

@@ -9,6 +9,7 @@ use native.Mathlib.Omega.{arith}
 use lib.Dec.{eqb}
 use lib.IntN.{ℤ}
 use lib.ListN.{length, take, length-append}
+use Rattle.std.specs.Prelude.{Some, None, Ok, Err}
 use Rattle.lists.specs.Lists.{gather}
 use Rattle.lists.proofs.Truth.{bcase, ocase}
 use Rattle.lists.proofs.Ranges.{gather_append}
@@ -20,26 +21,28 @@ use Rattle.cover.specs.Code.{rectangle_of}
 use Rattle.cover.specs.Records.{flash_bytes}
 use Rattle.cover.specs.declared.flashes.Flash.{Flash}
 use Rattle.text.specs.Words.{stands}
-use Rattle.gerber.specs.File.{Size, end_line}
+use Rattle.gerber.specs.File.{end_line}
+use Rattle.gerber.specs.declared.sizes.Size.{Size}
 use Rattle.gerber.specs.Reading.{Read, not_ruled, flashes_read, Turned, flash, over, bad, select_at, selected, flash_at, flashed, flash_turn, end_turn, after_select, turned, on_turn, read_flashes}
-use Rattle.gerber.specs.Parts.{turn_of, flash_is, ReadInto}
+use Rattle.gerber.specs.Parts.{turn_of, flash_is, bad_line, ReadInto}
 use Rattle.gerber.specs.declared.turns.Reached.{Reached}
-use Rattle.gerber.specs.declared.turns.Turn.TheVariants.{Flash as FlashTurn, Over, Bad}
-use Rattle.gerber.specs.declared.read.Body.TheVariants.{Flashes, Bad as BadLine}
+use Rattle.gerber.specs.declared.turns.BadLine.{BadLine}
 
 -- a turn by what the code has of it
-is-over : (t : Turned) → turn_of t ≡ Over → t ≡ over
+is-over : (t : Turned) → turn_of t ≡ Ok None → t ≡ over
 is-over (flash q s) e = let z : ◌≡◌ {A = ℕ} 0 1 = cc in absurd (omega arith)
 is-over over e = refl
 is-over (bad n) e = let z : ◌≡◌ {A = ℕ} 0 1 = cc in absurd (omega arith)
 
-is-bad : (t : Turned) {line : ℕ} → turn_of t ≡ Bad line → t ≡ bad line
+is-bad : (t : Turned) {b : BadLine} → turn_of t ≡ Err b → t ≡ bad b.0
 is-bad (flash q s) e = let z : ◌≡◌ {A = ℕ} 0 1 = cc in absurd (omega arith)
 is-bad over e = let z : ◌≡◌ {A = ℕ} 0 1 = cc in absurd (omega arith)
-is-bad (bad n) {line} e = let a : n ≡ line = cc in ap bad a
+is-bad (bad n) {b} e = let a : bad_line n ≡ b = cc in ap (λ (c : BadLine). bad c.0) a
 
-pub is-flash : (t : Turned) {f : Flash} {s : Reached} → turn_of t ≡ FlashTurn f s → t ≡ flash (rectangle_of f) s
-is-flash (flash q r) {f} {s} e = let a : flash_is q ≡ f = cc in let b : r ≡ s = cc in λ i. flash (rectangle_of (a i)) (b i)
+pub is-flash : (t : Turned) {f : Flash} {s : Reached} → turn_of t ≡ Ok (Some (f, s)) → t ≡ flash (rectangle_of f) s
+is-flash (flash q r) {f} {s} e =
+    let p : ◌≡◌ {A = Flash × Reached} (flash_is q, r) (f, s) = cc in
+    ap (λ (z : Flash × Reached). flash (rectangle_of z.0) z.1) p
 is-flash over e = let z : ◌≡◌ {A = ℕ} 0 1 = cc in absurd (omega arith)
 is-flash (bad n) e = let z : ◌≡◌ {A = ℕ} 0 1 = cc in absurd (omega arith)
 
@@ -94,26 +97,26 @@ module _ (pitch : ℕ) (x y : ℤ) (text : List ℕ) (sizes : List Size) where
   breaks (suc left) qs s e = rw e
 
   module _ {whole : Read} {room₀ : List ℕ} {n : ℕ} {s : Reached} {room : List ℕ} (o : Sofar whole room₀ n s room) where
-    pub turn-over : turn_of (turned pitch x y text sizes s) ≡ Over → ReadInto whole (Flashes n) room
+    pub turn-over : turn_of (turned pitch x y text sizes s) ≡ Ok None → ReadInto whole (Ok n) room
     turn-over e =
         let w : whole ≡ flashes_read o.flashes = o.same ∙ ends (side - n) o.flashes s (is-over (turned pitch x y text sizes s) e) in
-        subst (λ r. ReadInto r (Flashes n) room) (sym w)
-        (ap Flashes (sym o.many), omega (arith, o.few, o.many), ap (λ (k : ℕ). take (k * flash_record) room) o.many ∙ o.held)
+        subst (λ r. ReadInto r (Ok n) room) (sym w)
+        (ap Ok (sym o.many), omega (arith, o.few, o.many), ap (λ (k : ℕ). take (k * flash_record) room) o.many ∙ o.held)
 
-    pub turn-bad : {line : ℕ} → turn_of (turned pitch x y text sizes s) ≡ Bad line → ReadInto whole (BadLine line) room
-    turn-bad {line} e =
-        subst (λ r. ReadInto r (BadLine line) room) (sym (o.same ∙ breaks (side - n) o.flashes s (is-bad (turned pitch x y text sizes s) e))) refl
+    pub turn-bad : {b : BadLine} → turn_of (turned pitch x y text sizes s) ≡ Err b → ReadInto whole (Err b) room
+    turn-bad {b} e =
+        subst (λ r. ReadInto r (Err b) room) (sym (o.same ∙ breaks (side - n) o.flashes s (is-bad (turned pitch x y text sizes s) e))) refl
 
     -- past the last flash that a file may have
-    pub turn-past : {f : Flash} {s' : Reached} → n ≡ side → turn_of (turned pitch x y text sizes s) ≡ FlashTurn f s' → ReadInto whole (BadLine (s'.line - 1)) room
+    pub turn-past : {f : Flash} {s' : Reached} → n ≡ side → turn_of (turned pitch x y text sizes s) ≡ Ok (Some (f, s')) → ReadInto whole (Err (bad_line (s'.line - 1))) room
     unfolding read_flashes
     turn-past {f} {s'} h e =
         let k : side - n ≡ 0 = omega arith in
         let w : whole ≡ not_ruled (s'.line - 1) =
         o.same ∙ ap (λ (m : ℕ). read_flashes m pitch x y text sizes o.flashes s) k ∙ ap (λ t. on_turn t o.flashes (λ q r. not_ruled (r.line - 1))) (is-flash (turned pitch x y text sizes s) e) in
-        subst (λ r. ReadInto r (BadLine (s'.line - 1)) room) (sym w) refl
+        subst (λ r. ReadInto r (Err (bad_line (s'.line - 1))) room) (sym w) refl
 
-    pub turn_on : {f : Flash} {s' : Reached} → n < side → flash_room_size ≤ length room → turn_of (turned pitch x y text sizes s) ≡ FlashTurn f s'
+    pub turn_on : {f : Flash} {s' : Reached} → n < side → flash_room_size ≤ length room → turn_of (turned pitch x y text sizes s) ≡ Ok (Some (f, s'))
         → {room' : List ℕ} → room' ≡ written room (n * flash_record) (flash_bytes (rectangle_of f)) → Sofar whole room₀ (n + 1) s' room'
     unfolding read_flashes
     turn_on {f} {s'} h l e {room'} after =

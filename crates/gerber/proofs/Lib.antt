@@ -1,11 +1,10 @@
-pub mod Digits
 pub mod Pieces
 pub mod Records
-pub mod Codes
+pub mod SizeLists
 pub mod Signs
-pub mod Flashing
 pub mod Listing
-pub mod Sizes
+pub mod FileParts
+pub mod GridSizes
 pub mod Longest
 pub mod FileChecks
 pub mod Aside
@@ -26,7 +25,6 @@ pub mod ReadTurns
 pub mod ReadBack
 pub mod SelectRead
 pub mod ApertureRead
-pub mod CodedSizes
 pub mod ApertureTurns
 pub mod TurnLaws
 pub mod FlashTurns

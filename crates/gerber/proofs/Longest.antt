@@ -19,10 +19,14 @@ use Rattle.grid.specs.Squares.{Rectangle}
 use Rattle.text.specs.Decimal.{digits, decimal}
 use Rattle.text.specs.Signed.{signed}
 use Rattle.text.proofs.Lengths.{digits_grow}
-use Rattle.gerber.specs.File.{Size, size_of, is_same_size, added, used, apertures, place_of, first_number, millimetres, aperture_line, aperture_lines, centre, centre_line, selects, changes, flash_lines, first_line, head_lines, end_line, gerber_file, pitch_fits, coordinate_in_range, centre_fits, centres_fit}
-use Rattle.gerber.proofs.Pieces.{length-millimetres, length_aperture, length-select, length-flash}
+use Rattle.gerber.specs.File.{size_of, is_same_size, added, used, apertures, place_of, first_number, millimetres, aperture_line, aperture_lines, centre}
+use Rattle.gerber.specs.File.{centre_line, selects, changes, flash_lines, first_line, head_lines, end_line, gerber_file, pitch_fits, coordinate_in_range}
+use Rattle.gerber.specs.File.{centre_fits, centres_fit}
+use Rattle.gerber.specs.declared.sizes.Size.{Size}
+use Rattle.gerber.proofs.Pieces.{length_millimetres, length_aperture, length_select, length_flash}
 use Rattle.gerber.proofs.Signs.{pitch_most}
-use Rattle.gerber.proofs.Sizes.{Good, Goods, Drawns, apertures-good}
+use Rattle.gerber.specs.Code.{OnGrid}
+use Rattle.gerber.proofs.GridSizes.{AllOnGrid, Drawns, apertures-on_grid}
 
 -- the longest line of each kind: its bytes, and the digits of its numbers at their greatest
 abbrev pub aperture_most : ℕ
@@ -52,9 +56,9 @@ head-most version = bcase (eqb version 1) (λ u. rw u (omega arith)) (λ u. rw u
 side-length : (pitch n : ℕ) → pitch_fits pitch ≡ true → n ≤ side → length (millimetres (n * pitch)) ≤ length (decimal side) + 7
 side-length pitch n p h =
     let m : n * pitch ≤ side * 1000000 = mul-le-mul h (pitch_most pitch p) in
-    omega (arith, length-millimetres (n * pitch), digits_grow side (n * pitch / 10 ^ 6) (omega arith))
+    omega (arith, length_millimetres (n * pitch), digits_grow side (n * pitch / 10 ^ 6) (omega arith))
 
-aperture_most_lem : (pitch k : ℕ) (s : Size) → pitch_fits pitch ≡ true → k ≤ side → Good s → length (aperture_line pitch k s) ≤ aperture_most
+aperture_most_lem : (pitch k : ℕ) (s : Size) → pitch_fits pitch ≡ true → k ≤ side → OnGrid s → length (aperture_line pitch k s) ≤ aperture_most
 aperture_most_lem pitch k s p h g =
     omega (
       arith,
@@ -64,7 +68,7 @@ aperture_most_lem pitch k s p h g =
       side-length pitch s.high p g.high,
     )
 
-apertures-most : (pitch k : ℕ) (ss : List Size) → pitch_fits pitch ≡ true → k + length ss ≤ side → Goods ss → length (aperture_lines pitch k ss) ≤ length ss * aperture_most
+apertures-most : (pitch k : ℕ) (ss : List Size) → pitch_fits pitch ≡ true → k + length ss ≤ side → AllOnGrid ss → length (aperture_lines pitch k ss) ≤ length ss * aperture_most
 unfolding aperture_lines
 apertures-most pitch k [] p h gs = omega arith
 apertures-most pitch k (s ∷ ss) p h gs =
@@ -93,7 +97,7 @@ place-low s (t ∷ ss) = bcase (is_same_size s t) (λ u. rw u (omega arith)) (λ
 selects-most : (sizes : List Size) (before : Option Size) (s : Size) → length sizes ≤ side → length (selects sizes before s) ≤ select_most
 selects-most sizes before s h =
     bcase (changes before s)
-    (λ u. rw u (omega (arith, length-select (place_of s sizes), place-low s sizes, digits_grow (first_number + side) (first_number + place_of s sizes) (omega (arith, place-low s sizes)))))
+    (λ u. rw u (omega (arith, length_select (place_of s sizes), place-low s sizes, digits_grow (first_number + side) (first_number + place_of s sizes) (omega (arith, place-low s sizes)))))
     (λ u. rw u (omega arith))
 
 pub signed-most : (z : ℤ) → coordinate_in_range z ≡ true → length (signed z) ≤ 1 + length (decimal (10 ^ 10 - 1))
@@ -107,7 +111,7 @@ centre-most pitch x y q t =
     let b : ℤ = centre pitch y q.bottom q.top in
     omega (
       arith,
-      length-flash a b,
+      length_flash a b,
       signed-most a (and_left (coordinate_in_range a) (coordinate_in_range b) t),
       signed-most b (and_right (coordinate_in_range a) (coordinate_in_range b) t),
     )
@@ -136,7 +140,8 @@ pub file-most : (version pitch : ℕ) (x y : ℤ) (qs : List Rectangle) → pitc
 unfolding gerber_file
 file-most version pitch x y qs p few ds t =
     let many : length (apertures qs) ≤ side = omega (arith, used-most [] qs) in
-    let a = le_trans (apertures-most pitch 0 (apertures qs) p (omega arith) (apertures-good qs ds)) (mul-le-mul many (le_refl aperture_most)) in
+    let a = le_trans (apertures-most pitch 0 (apertures qs) p (omega arith) (apertures-on_grid qs ds)) (mul-le-mul many (le_refl aperture_most)) in
     let b = le_trans (flashes-most pitch x y (apertures qs) none qs many t) (mul-le-mul few (le_refl (select_most + flash_most))) in
-    let c = parts-most (head_lines version) (aperture_lines pitch 0 (apertures qs)) (flash_lines pitch x y (apertures qs) none qs) end_line (side * aperture_most) (side * (select_most + flash_most)) a b in
+    let c = parts-most (head_lines version) (aperture_lines pitch 0 (apertures qs)) (flash_lines pitch x y (apertures qs) none qs) end_line (side * aperture_most)
+    (side * (select_most + flash_most)) a b in
     omega (arith, c, head-most version)

@@ -12,7 +12,8 @@ use Rattle.lists.specs.Lists.{any}
 use Rattle.lists.proofs.Truth.{bcase, and_left, and_right}
 use Rattle.lists.proofs.Members.{any_append}
 use Rattle.grid.specs.Squares.{Rectangle}
-use Rattle.gerber.specs.File.{Size, is_same_size, added, used, place_of}
+use Rattle.gerber.specs.File.{is_same_size, added, used, place_of}
+use Rattle.gerber.specs.declared.sizes.Size.{Size}
 use Rattle.gerber.specs.Reading.{size_at}
 use Rattle.gerber.proofs.FirstUse.{same_self, either_way, added-there, used-behind, Once}
 

@@ -3,9 +3,9 @@ use mathlib.Core.Path.{◌≡◌, refl}
 use mathlib.Core.List.{List, [], ◌∷◌}
 use lib.IntN.{pos, negsuc}
 use Rattle.grid.specs.Squares.{Rectangle}
-use Rattle.text.specs.Decimal.{digits, decimal}
+use Rattle.text.specs.Decimal.{digits, decimal, last_digits}
 use Rattle.text.specs.Signed.{signed}
-use Rattle.gerber.specs.File.{bytes, added, used, place_of, last_digits, millimetres, aperture_line, select_line, flash_line, centre, aperture_lines, flash_lines, first_line, gerber_file}
+use Rattle.gerber.specs.File.{bytes, added, used, place_of, millimetres, aperture_line, select_line, flash_line, centre, aperture_lines, flash_lines, first_line, gerber_file}
 
 abbrev pub plus : List Rectangle
 plus = record { first = 0; last = 2; bottom = 1; top = 1 } ∷ record { first = 1; last = 1; bottom = 0; top = 2 } ∷ []

@@ -1,6 +1,6 @@
 -- The whole outcome of reading, case by case; and what a body that was read says of the file. `read_file` and `keekaboor_read_gerber` go by this.
 use mathlib.Core.Path.{◌≡◌, refl, sym, ap, subst, ◌∙◌}
-use mathlib.Core.Bool.{true, false}
+use mathlib.Core.Bool.{Bool, true, false, cond}
 use mathlib.Core.List.{List, [], ◌∷◌, ◌++◌}
 use Prim.Native.Nat.{ℕ, suc, ◌+◌, ◌*◌, ◌≤◌}
 use native.Mathlib.Omega.{arith}
@@ -8,25 +8,25 @@ use borrow.Author.Tests.{ne_eqb}
 use lib.Dec.{leb}
 use lib.IntN.{ℤ}
 use lib.ListN.{length, take}
+use Rattle.std.specs.Option.{ok_or, MatchOption}
 use Rattle.lists.specs.Lists.{gather}
 use Rattle.grid.specs.Limits.{side, flash_room_size, flash_record}
 use Rattle.grid.specs.Answers.{answer, refused, check, first_refusal, or_else, flash_room_short, bad_file_line}
 use Rattle.grid.specs.Squares.{Rectangle}
 use Rattle.grid.specs.declared.answers.Answer.{Answer}
+use Rattle.grid.specs.declared.answers.Refusal.{Refusal}
 use Rattle.grid.proofs.Chain.{Passes, stands as refuses, gives_way, chain-append, chain_skip, passed-check}
-use Rattle.text.specs.declared.read.Next.TheVariants.{Spot, Nothing}
+use Rattle.std.specs.Prelude.{Option, Result, Some, None, Ok, Err}
 use Rattle.text.specs.Words.{stands, word_at}
 use Rattle.text.proofs.Passes.{found-spot}
 use Rattle.cover.specs.Records.{flash_bytes}
 use Rattle.gerber.specs.File.{comment_line, attribute_line, format_checks}
-use Rattle.gerber.specs.Code.{coded_sizes}
-use Rattle.gerber.specs.Reading.{Read, not_ruled, flashes_read, Apertures, past_apertures, first_of, read_head, read_apertures, read_flashes, read_body, read_file, read_refused, all_read, line_check, read_checks, or_flashes, read_gives}
-use Rattle.gerber.specs.Parts.{HeadRead, ReadInto}
-use Rattle.gerber.specs.declared.read.Head.TheVariants.{Past, Bad as BadHead}
-use Rattle.gerber.specs.declared.read.Body.{Body}
-use Rattle.gerber.specs.declared.read.Body.TheVariants.{Flashes, Bad as BadLine}
+use Rattle.gerber.specs.Reading.{Read, not_ruled, flashes_read, Apertures, past_apertures, first_of, read_head, read_apertures, read_flashes, read_body}
+use Rattle.gerber.specs.Reading.{read_file, read_refused, all_read, line_check, read_checks, or_flashes, read_gives}
+use Rattle.gerber.specs.Parts.{bad_line, on_head, HeadRead, ReadInto}
+use Rattle.gerber.specs.declared.sizes.Size.{Size}
+use Rattle.gerber.specs.declared.turns.BadLine.{BadLine}
 use Rattle.gerber.proofs.Compared.{found_nothing}
-use Rattle.gerber.proofs.CodedSizes.{coded_length}
 
 module _ (version pitch : ℕ) (x y : ℤ) (text f : List ℕ) where
   pub read_short : leb flash_room_size (length f) ≡ false → read_gives version pitch x y text f ≡ read_refused (refused flash_room_short) f
@@ -61,23 +61,24 @@ module _ (version pitch : ℕ) (x y : ℤ) (text f : List ℕ) where
       unfolding first_refusal or_else or_flashes
       read_all e = given ∙ rw e
 
+-- a check of the code, passed or refused
+pub check-refuses : (b : Bool) (r : Refusal) {s : Refusal} → ◌≡◌ {A = Result (Unit {0}) Refusal} (cond b (Ok tt) (Err r)) (Err s) → (b ≡ false) × (r ≡ s)
+check-refuses true r e = let z : ◌≡◌ {A = ℕ} 0 1 = cc in absurd (omega arith)
+check-refuses false r e = (refl, cc)
+
+pub check-passes : (b : Bool) (r : Refusal) {u : Unit {0}} → ◌≡◌ {A = Result (Unit {0}) Refusal} (cond b (Ok tt) (Err r)) (Ok u) → b ≡ true
+check-passes true r e = refl
+check-passes false r e = let z : ◌≡◌ {A = ℕ} 0 1 = cc in absurd (omega arith)
+
 -- what a body says of what was read
-pub body-bad : (w : Read) (line : ℕ) (room : List ℕ) → ReadInto w (BadLine line) room → w ≡ not_ruled line
-body-bad (not_ruled n) line room r = let a : line ≡ n = cc in ap not_ruled (sym a)
-body-bad (flashes_read qs) line room r = let e = r.0 in let z : ◌≡◌ {A = ℕ} 0 1 = cc in absurd (omega arith)
+pub told-bad : (w : Read) {b : BadLine} (room : List ℕ) → ReadInto w (Err b) room → w ≡ not_ruled b.0
+told-bad (not_ruled n) {b} room r = let a : b ≡ bad_line n = cc in ap (λ (c : BadLine). not_ruled c.0) (sym a)
+told-bad (flashes_read qs) room r = let e = r.0 in let z : ◌≡◌ {A = ℕ} 0 1 = cc in absurd (omega arith)
 
-pub body-flashes : (w : Read) (n : ℕ) (room : List ℕ) → ReadInto w (Flashes n) room
+pub told-flashes : (w : Read) (n : ℕ) (room : List ℕ) → ReadInto w (Ok n) room
     → (qs : List Rectangle) × (w ≡ flashes_read qs) × (n ≡ length qs) × (length qs ≤ side) × (take (length qs * flash_record) room ≡ gather flash_bytes qs)
-body-flashes (not_ruled m) n room r = let z : ◌≡◌ {A = ℕ} 0 1 = cc in absurd (omega arith)
-body-flashes (flashes_read qs) n room r = let e = r.0 in let a : n ≡ length qs = cc in (qs, refl, a, r.1, r.2)
-
--- the same, of what the code has
-pub told-bad : (w : Read) (r : Body) (room : List ℕ) {line : ℕ} → ReadInto w r room → r ≡ BadLine line → w ≡ not_ruled line
-told-bad w r room {line} i e = body-bad w line room (subst (λ (b : Body). ReadInto w b room) e i)
-
-pub told-flashes : (w : Read) (r : Body) (room : List ℕ) {n : ℕ} → ReadInto w r room → r ≡ Flashes n
-    → (qs : List Rectangle) × (w ≡ flashes_read qs) × (n ≡ length qs) × (length qs ≤ side) × (take (length qs * flash_record) room ≡ gather flash_bytes qs)
-told-flashes w r room {n} i e = body-flashes w n room (subst (λ (b : Body). ReadInto w b room) e i)
+told-flashes (not_ruled m) n room r = let z : ◌≡◌ {A = ℕ} 0 1 = cc in absurd (omega arith)
+told-flashes (flashes_read qs) n room r = let e = r.0 in let a : n ≡ length qs = cc in (qs, refl, a, r.1, r.2)
 
 -- the first line, as the code looks for it
 module _ (text : List ℕ) where
@@ -89,49 +90,48 @@ module _ (text : List ℕ) where
   unfolding first_of
   is_attribute t = rw t
 
-  pub first_comment : {at : ℕ} → word_at text 0 comment_line ≡ Spot at → Spot at ≡ word_at text 0 (first_of text)
+  pub first_comment : {at : ℕ} → word_at text 0 comment_line ≡ Some at → Some at ≡ word_at text 0 (first_of text)
   unfolding word_at
   first_comment e = sym e ∙ ap (word_at text 0) (sym (is_comment (found-spot (stands text 0 comment_line) (0 + length comment_line) e).0))
 
-  pub first_attribute : word_at text 0 comment_line ≡ Nothing → word_at text 0 attribute_line ≡ word_at text 0 (first_of text)
+  pub first_attribute : word_at text 0 comment_line ≡ None → word_at text 0 attribute_line ≡ word_at text 0 (first_of text)
   unfolding word_at
   first_attribute e = ap (word_at text 0) (sym (is_attribute (found_nothing (stands text 0 comment_line) (0 + length comment_line) e)))
 
+  pub first_either : (o : Option ℕ) → o ≡ word_at text 0 comment_line → {r : Option ℕ} {P : Type 0} → MatchOption o P (λ x. r ≡ Some x) → (P → r ≡ word_at text 0 attribute_line) → r
+      ≡ word_at text 0 (first_of text)
+  first_either None e m f = f m ∙ first_attribute (sym e)
+  first_either (Some at) e m f = m ∙ first_comment (sym e)
+
 -- a line of the head
-pub head-stop : (text : List ℕ) (n : ℕ) (l : List ℕ) (ls : List (List ℕ)) (spot : ℕ) (next : ℕ → Read) → word_at text spot l ≡ Nothing → read_head text n (l ∷ ls) spot next ≡ not_ruled n
+pub head-stop : (text : List ℕ) (n : ℕ) (l : List ℕ) (ls : List (List ℕ)) (spot : ℕ) (next : ℕ → Read) → word_at text spot l ≡ None → read_head text n (l ∷ ls) spot next ≡ not_ruled n
 unfolding read_head word_at
 head-stop text n l ls spot next e = rw (found_nothing (stands text spot l) (spot + length l) e)
 
-pub head-on : (text : List ℕ) (n : ℕ) (l : List ℕ) (ls : List (List ℕ)) (spot : ℕ) (next : ℕ → Read) {at : ℕ} → word_at text spot l ≡ Spot at → read_head text n (l ∷ ls) spot next ≡ read_head text (suc n) ls at next
+pub head-on : (text : List ℕ) (n : ℕ) (l : List ℕ) (ls : List (List ℕ)) (spot : ℕ) (next : ℕ → Read) {at : ℕ} → word_at text spot l ≡ Some at → read_head text n (l ∷ ls) spot next
+    ≡ read_head text (suc n) ls at next
 unfolding read_head word_at
 head-on text n l ls spot next e =
     let f = found-spot (stands text spot l) (spot + length l) e in
     rw f.0 (ap (λ (i : ℕ). read_head text (suc n) ls i next) f.1)
 
-pub head-last : (text : List ℕ) (n : ℕ) (l : List ℕ) (spot : ℕ) (next : ℕ → Read) {at : ℕ} → word_at text spot l ≡ Spot at → read_head text n (l ∷ []) spot next ≡ next at
+-- and the last
+pub head-ends : (text : List ℕ) (spot : ℕ) (l : List ℕ) (n : ℕ) (next : ℕ → Read) (o : Option ℕ) → o ≡ word_at text spot l → read_head text n (l ∷ []) spot next ≡ on_head (ok_or o (bad_line n)) next
 unfolding read_head
-head-last text n l spot next e = head-on text n l [] spot next e
+head-ends text spot l n next None e = head-stop text n l [] spot next (sym e)
+head-ends text spot l n next (Some at) e = head-on text n l [] spot next (sym e)
 
 -- the head, and what follows it
 module _ (pitch : ℕ) (x y : ℤ) (text : List ℕ) where
-  pub file-bad : {line : ℕ} → HeadRead text (BadHead line) → read_file pitch x y text ≡ not_ruled line
+  pub file-bad : {b : BadLine} (room : List ℕ) → HeadRead text (Err b) → ReadInto (read_file pitch x y text) (Err b) room
   unfolding read_file
-  file-bad h = h (read_body pitch x y text)
+  file-bad {b} room h = subst (λ (w : Read). ReadInto w (Err b) room) (sym (h (read_body pitch x y text))) refl
 
-  pub file-bad-into : {line : ℕ} (room : List ℕ) → HeadRead text (BadHead line) → ReadInto (read_file pitch x y text) (BadLine line) room
-  file-bad-into {line} room h = subst (λ (w : Read). ReadInto w (BadLine line) room) (sym (file-bad h)) refl
-
-  pub file-on : {spot count past : ℕ} (table : List ℕ) → count ≤ length table → HeadRead text (Past spot)
-      → record { sizes = coded_sizes (take count table); past = past } ≡ read_apertures side pitch text (record { sizes = []; past = spot })
-      → read_file pitch x y text ≡ read_flashes side pitch x y text (coded_sizes (take count table)) [] (record { line = 3 + count + 1; at = past; used = 0; current = 0 })
-  unfolding read_file
-  file-on {spot} {count} {past} table fits h e =
-      h (read_body pitch x y text)
-      ∙ sym (ap (λ (a : Apertures). read_flashes side pitch x y text a.sizes [] (past_apertures a)) e)
-      ∙ ap (λ (n : ℕ). read_flashes side pitch x y text (coded_sizes (take count table)) [] (record { line = 3 + n + 1; at = past; used = 0; current = 0 })) (coded_length count table fits)
-
-  pub file-on-into : {spot count past : ℕ} (table : List ℕ) (r : Body) (room : List ℕ) → count ≤ length table → HeadRead text (Past spot)
-      → record { sizes = coded_sizes (take count table); past = past } ≡ read_apertures side pitch text (record { sizes = []; past = spot })
-      → ReadInto (read_flashes side pitch x y text (coded_sizes (take count table)) [] (record { line = 3 + count + 1; at = past; used = 0; current = 0 })) r room
+  pub file-on : {spot past : ℕ} {sizes : List Size} (r : Result ℕ BadLine) (room : List ℕ) → HeadRead text (Ok spot)
+      → record { sizes = sizes; past = past } ≡ read_apertures side pitch text (record { sizes = []; past = spot })
+      → ReadInto (read_flashes side pitch x y text sizes [] (record { line = 3 + length sizes + 1; at = past; used = 0; current = None })) r room
       → ReadInto (read_file pitch x y text) r room
-  file-on-into table r room fits h e i = subst (λ (w : Read). ReadInto w r room) (sym (file-on table fits h e)) i
+  unfolding read_file
+  file-on r room h e i =
+      let f = h (read_body pitch x y text) ∙ sym (ap (λ (a : Apertures). read_flashes side pitch x y text a.sizes [] (past_apertures a)) e) in
+      subst (λ (w : Read). ReadInto w r room) (sym f) i

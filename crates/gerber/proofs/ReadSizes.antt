@@ -9,45 +9,20 @@ use native.Mathlib.Omega.{arith}
 use lib.Dec.{eqb}
 use lib.ListN.{length, drop, length-append}
 use Rattle.lists.specs.Lists.{any, gather, from}
-use Rattle.lists.proofs.Truth.{bcase, and_left, and_both}
+use Rattle.lists.proofs.Truth.{and_left, and_both}
 use Rattle.lists.proofs.Members.{In, first-only, none_first}
 use Rattle.lists.proofs.Ranges.{in_from, in_map, in_gather}
 use Rattle.grid.specs.Limits.{side}
-use Rattle.grid.specs.Squares.{Rectangle}
 use Rattle.text.specs.Words.{begins, stands}
 use Rattle.text.proofs.Stands.{stands_at}
-use Rattle.gerber.specs.File.{Size, size_of, is_same_size, added, used, aperture_line, aperture_lines, pitch_fits}
+use Rattle.gerber.specs.File.{is_same_size, aperture_line, aperture_lines, pitch_fits}
+use Rattle.gerber.specs.declared.sizes.Size.{Size}
 use Rattle.gerber.specs.Reading.{grid_sizes, aperture_at, on_aperture, read_apertures}
-use Rattle.gerber.proofs.Sizes.{Drawns}
+use Rattle.gerber.specs.Code.{OnGrid}
+use Rattle.gerber.proofs.GridSizes.{AllOnGrid}
 use Rattle.gerber.proofs.FirstUse.{Once}
 use Rattle.gerber.proofs.Places.{not-before}
 use Rattle.gerber.proofs.Stood.{passed, least_pitch, aperture_apart}
-
--- a size within the grid
-pub record OnGrid (z : Size) : Type 0 where
-  pub some-wide : 1 ≤ z.wide
-  pub wide : z.wide ≤ side
-  pub some-high : 1 ≤ z.high
-  pub high : z.high ≤ side
-
-abbrev pub AllOnGrid : List Size → Type 0
-AllOnGrid [] = Unit {0}
-AllOnGrid (z ∷ zs) = OnGrid z × AllOnGrid zs
-
-grid_last : (zs : List Size) (z : Size) → AllOnGrid zs → OnGrid z → AllOnGrid (zs ++ (z ∷ []))
-grid_last [] z gs g = (g, tt)
-grid_last (y ∷ zs) z gs g = (gs.0, grid_last zs z gs.1 g)
-
-grid_added : (zs : List Size) (z : Size) → AllOnGrid zs → OnGrid z → AllOnGrid (added zs z)
-unfolding added
-grid_added zs z gs g = bcase (any (is_same_size z) zs) (λ u. rw u gs) (λ u. rw u (grid_last zs z gs g))
-
-pub used-on_grid : (zs : List Size) (qs : List Rectangle) → AllOnGrid zs → Drawns qs → AllOnGrid (used zs qs)
-unfolding used
-used-on_grid zs [] gs ds = gs
-used-on_grid zs (q ∷ qs) gs ds =
-    let d = ds.0 in
-    used-on_grid (added zs (size_of q)) qs (grid_added zs (size_of q) gs (record { some-wide = omega arith; wide = omega arith; some-high = omega arith; high = omega arith })) ds.1
 
 -- it is one of the grid's, whatever the grid's side
 grid_in : (n : ℕ) (z : Size) → 1 ≤ z.wide → z.wide ≤ n → 1 ≤ z.high → z.high ≤ n → In z (gather (λ w. map (λ h. record { wide = w; high = h }) (from 1 n)) (from 1 n))
@@ -64,7 +39,8 @@ module _ (pitch : ℕ) (fits : pitch_fits pitch ≡ true) (t : List ℕ) where
       grid_sizes
       (grid_in side z g.some-wide g.wide g.some-high g.high)
       (and_both (stands t spot (aperture_line pitch (length done) z)) (not (any (is_same_size z) done)) (stands_at t spot (aperture_line pitch (length done) z) rest e) (ap not f))
-      (λ y m u. aperture_apart t spot pitch (length done) y z rest (omega (arith, least_pitch pitch fits)) e (and_left (stands t spot (aperture_line pitch (length done) y)) (not (any (is_same_size y) done)) u))
+      (λ y m u. aperture_apart t spot pitch (length done) y z rest (omega (arith, least_pitch pitch fits)) e
+      (and_left (stands t spot (aperture_line pitch (length done) y)) (not (any (is_same_size y) done)) u))
 
   -- where another byte stands, no aperture line does
   no_aperture : (k : ℕ) (z : Size) (spot b : ℕ) (rest : List ℕ) → eqb 37 b ≡ false → drop spot t ≡ b ∷ rest → stands t spot (aperture_line pitch k z) ≡ false
@@ -94,7 +70,10 @@ module _ (pitch : ℕ) (fits : pitch_fits pitch ≡ true) (t : List ℕ) where
       let others : List ℕ = aperture_lines pitch (suc (length done)) zs in
       let m : length (done ++ (z ∷ [])) ≡ suc (length done) = omega (arith, length-append done (z ∷ [])) in
       let e' : drop spot t ≡ line ++ (others ++ (b ∷ rest)) = e ∙ append_assoc line others (b ∷ rest) in
-      let n : spot + length line + length (aperture_lines pitch (length (done ++ (z ∷ []))) zs) ≡ spot + length (line ++ others) = omega (arith, ap (λ (k : ℕ). length (aperture_lines pitch k zs)) m, length-append line others) in
-      ap (λ (r : Option Size). on_aperture pitch (record { sizes = done; past = spot }) r (read_apertures left pitch t)) (aperture_there done z spot (others ++ (b ∷ rest)) gs.0 (not-before done z zs o) e')
-      ∙ apertures-read left zs (done ++ (z ∷ [])) (spot + length line) b rest (omega arith) gs.1 (subst Once (sym (append_assoc done (z ∷ []) zs)) o) f (passed t spot line (others ++ (b ∷ rest)) e' ∙ ap (λ (k : ℕ). aperture_lines pitch k zs ++ (b ∷ rest)) (sym m))
+      let n : spot + length line + length (aperture_lines pitch (length (done ++ (z ∷ []))) zs) ≡ spot + length (line ++ others) =
+      omega (arith, ap (λ (k : ℕ). length (aperture_lines pitch k zs)) m, length-append line others) in
+      ap (λ (r : Option Size). on_aperture pitch (record { sizes = done; past = spot }) r (read_apertures left pitch t))
+      (aperture_there done z spot (others ++ (b ∷ rest)) gs.0 (not-before done z zs o) e')
+      ∙ apertures-read left zs (done ++ (z ∷ [])) (spot + length line) b rest (omega arith) gs.1 (subst Once (sym (append_assoc done (z ∷ []) zs)) o) f
+      (passed t spot line (others ++ (b ∷ rest)) e' ∙ ap (λ (k : ℕ). aperture_lines pitch k zs ++ (b ∷ rest)) (sym m))
       ∙ (λ i. record { sizes = append_assoc done (z ∷ []) zs i; past = n i })

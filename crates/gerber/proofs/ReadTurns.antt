@@ -9,7 +9,8 @@ use native.Mathlib.Omega.{arith}
 use lib.Dec.{eqb}
 use lib.IntN.{ℤ}
 use lib.ListN.{length, drop, length-drop}
-use borrow.Author.Tests.{lt-ltb, le-leb, eq-eqb}
+use borrow.Author.Tests.{le-leb, eq-eqb}
+use Rattle.std.specs.Prelude.{Option as Maybe, Some}
 use Rattle.lists.specs.Lists.{gather, up_to}
 use Rattle.lists.proofs.Truth.{bcase, and_left, and_both}
 use Rattle.lists.proofs.Members.{In, first-only, none_first}
@@ -19,8 +20,10 @@ use Rattle.grid.specs.Squares.{Rectangle}
 use Rattle.text.specs.Words.{begins, stands}
 use Rattle.text.proofs.Stands.{stands_at}
 use Rattle.cover.specs.Code.{Drawn}
-use Rattle.gerber.specs.File.{Size, size_of, select_line, flash_line, centre, centre_line, end_line, centre_fits, pitch_fits}
-use Rattle.gerber.specs.Reading.{is_current, may_select, select_at, selected, placed, placements, size_at, placed_at, flash_at, flashed, flash, over, flash_turn, end_turn, after_select, turned}
+use Rattle.gerber.specs.File.{size_of, select_line, flash_line, centre, centre_line, end_line, centre_fits, pitch_fits}
+use Rattle.gerber.specs.declared.sizes.Size.{Size}
+use Rattle.gerber.specs.Reading.{is_current, may_select, select_at, selected, placed, placements, size_at, placed_at, on_current, flash_at, flashed, flash}
+use Rattle.gerber.specs.Reading.{over, flash_turn, end_turn, after_select, turned}
 use Rattle.gerber.specs.declared.turns.Reached.{Reached}
 use Rattle.gerber.proofs.Stood.{passed, least_pitch, select_apart, flash-apart, centre-apart}
 
@@ -32,7 +35,8 @@ placed_self q d =
     (λ i. record { first = q.first; last = l i; bottom = q.bottom; top = h i })
 
 pub placed_in : (n : ℕ) (z : Size) (c r : ℕ) → c < n - z.wide → r < n - z.high → In (placed z c r) (gather (λ c. map (placed z c) (up_to (n - z.high))) (up_to (n - z.wide)))
-placed_in n z c r h l = in_gather (λ c. map (placed z c) (up_to (n - z.high))) (in_from 0 (n - z.wide) c (omega arith) (omega arith)) (in_map (placed z c) (in_from 0 (n - z.high) r (omega arith) (omega arith)))
+placed_in n z c r h l = in_gather (λ c. map (placed z c) (up_to (n - z.high))) (in_from 0 (n - z.wide) c (omega arith) (omega arith))
+    (in_map (placed z c) (in_from 0 (n - z.high) r (omega arith) (omega arith)))
 
 pub in_placed : (n : ℕ) (z : Size) (q : Rectangle) → In q (gather (λ c. map (placed z c) (up_to (n - z.high))) (up_to (n - z.wide)))
     → (c : ℕ) × (r : ℕ) × (q ≡ placed z c r) × In c (up_to (n - z.wide)) × In r (up_to (n - z.high))
@@ -77,11 +81,11 @@ module _ (pitch : ℕ) (fits : pitch_fits pitch ≡ true) (x y : ℤ) (t : List 
       (and_both (stands t spot (centre_line pitch x y q)) (centre_fits pitch x y q) (stands_at t spot (centre_line pitch x y q) rest e) f)
       (λ p m u. only-flash q p spot rest d e m (and_left (stands t spot (centre_line pitch x y p)) (centre_fits pitch x y p) u))
 
-  flash-there : (sizes : List Size) (s : Reached) (q : Rectangle) (rest : List ℕ) → 0 < s.used → size_at sizes s.current ≡ size_of q → Drawn q → centre_fits pitch x y q ≡ true
+  flash-there : (sizes : List Size) (s : Reached) (k : ℕ) (q : Rectangle) (rest : List ℕ) → s.current ≡ Some k → size_at sizes k ≡ size_of q → Drawn q → centre_fits pitch x y q ≡ true
       → drop s.at t ≡ centre_line pitch x y q ++ rest → flash_at pitch x y t sizes s ≡ some q
   unfolding flash_at
-  flash-there sizes s q rest h z d f e =
-      ap (λ (b : Bool). cond b (placed_at pitch x y t (size_at sizes s.current) s.at) none) (lt-ltb 0 s.used h)
+  flash-there sizes s k q rest h z d f e =
+      ap (λ (o : Maybe ℕ). on_current o (λ j. placed_at pitch x y t (size_at sizes j) s.at)) h
       ∙ ap (λ (z : Size). placed_at pitch x y t z s.at) z
       ∙ flash-first q s.at rest d f e
 
@@ -123,16 +127,16 @@ module _ (pitch : ℕ) (fits : pitch_fits pitch ≡ true) (x y : ℤ) (t : List 
   unfolding turned
   select-turn sizes s k q rest l h c z d f e =
       ap (after_select pitch x y t sizes s) (select-there (length sizes) s k (centre_line pitch x y q ++ rest) l h c e)
-      ∙ ap (flash_turn pitch x y (selected s k)) (flash-there sizes (selected s k) q rest (omega arith) z d f (passed t s.at (select_line k) (centre_line pitch x y q ++ rest) e))
+      ∙ ap (flash_turn pitch x y (selected s k)) (flash-there sizes (selected s k) k q rest refl z d f (passed t s.at (select_line k) (centre_line pitch x y q ++ rest) e))
 
-  pub flash-turn : (sizes : List Size) (s : Reached) (q : Rectangle) (rest : List ℕ) → 0 < s.used → size_at sizes s.current ≡ size_of q → Drawn q
+  pub flash-turn : (sizes : List Size) (s : Reached) (k : ℕ) (q : Rectangle) (rest : List ℕ) → s.current ≡ Some k → size_at sizes k ≡ size_of q → Drawn q
       → centre_fits pitch x y q ≡ true → drop s.at t ≡ centre_line pitch x y q ++ rest → turned pitch x y t sizes s ≡ flash q (flashed pitch x y s q)
   unfolding turned
-  flash-turn sizes s q rest h z d f e =
+  flash-turn sizes s k q rest h z d f e =
       let b = flash_byte q s.at rest e in
       ap (after_select pitch x y t sizes s) (select-none (length sizes) s 88 b.0 refl b.1)
       ∙ ap (λ (u : Bool). cond u (end_turn t (length sizes) s) (flash_turn pitch x y s (flash_at pitch x y t sizes s))) (no_end s.at b.0 b.1)
-      ∙ ap (flash_turn pitch x y s) (flash-there sizes s q rest h z d f e)
+      ∙ ap (flash_turn pitch x y s) (flash-there sizes s k q rest h z d f e)
 
   pub end-turn : (sizes : List Size) (s : Reached) → s.used ≡ length sizes → drop s.at t ≡ end_line → turned pitch x y t sizes s ≡ over
   unfolding turned

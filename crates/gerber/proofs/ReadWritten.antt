@@ -35,7 +35,7 @@ use Rattle.gerber.specs.Reading.{read_gives, ReadsGerber}
 use Rattle.gerber.specs.SameFlashes.{SameFlashes}
 use Rattle.gerber.specs.declared.write.WriteOutcome.{WriteOutcome}
 use Rattle.gerber.specs.declared.read.ReadOutcome.{ReadOutcome}
-use Rattle.gerber.proofs.Sizes.{Drawns, held-drawn}
+use Rattle.gerber.proofs.GridSizes.{Drawns, held-drawn}
 use Rattle.gerber.proofs.Aside.{Told, told}
 use Rattle.gerber.proofs.FileChecks.{format_passes, checks-passed}
 use Rattle.gerber.proofs.Filing.{not_covered, write_refused, write_done}
@@ -124,7 +124,8 @@ module _ (w h k : ℕ) (raster f m : List ℕ) where
           ap (take r.length) (ap (λ (g : Given). g.file_after) whole) ∙ taken t file r.length (sym (ap (λ (g : Given). g.outcome.length) whole))
 
       -- of every outcome of the reader, under either version
-      pub read-written : (either : ℕ) {g : List ℕ} {o : ReadOutcome} {g' : List ℕ} → version_known either ≡ true → flash_room_size ≤ length g → ReadsGerber either pitch x y (take r.length t') g o g' → SameFlashes r f' g o g'
+      pub read-written : (either : ℕ) {g : List ℕ} {o : ReadOutcome} {g' : List ℕ} → version_known either ≡ true → flash_room_size ≤ length g
+          → ReadsGerber either pitch x y (take r.length t') g o g' → SameFlashes r f' g o g'
       read-written either {g} {o} {g'} known room e =
           let file : List ℕ = gerber_file version pitch x y ours in
           let bytes : List ℕ = gather flash_bytes ours in
@@ -136,6 +137,7 @@ module _ (w h k : ℕ) (raster f m : List ℕ) where
           record {
             answered = ap (λ (u : Reading.Given). u.outcome.answer) q;
             many = ap (λ (u : Reading.Given). u.outcome.flashes) q ∙ sym counted;
-            records = ap (take (r.flashes * flash_record)) there ∙ taken g bytes (r.flashes * flash_record) n ∙ sym (ap (take (r.flashes * flash_record)) here ∙ taken f bytes (r.flashes * flash_record) n);
+            records = ap (take (r.flashes * flash_record)) there ∙ taken g bytes (r.flashes * flash_record) n
+                ∙ sym (ap (take (r.flashes * flash_record)) here ∙ taken f bytes (r.flashes * flash_record) n);
             rest = ap (drop (r.flashes * flash_record)) there ∙ left g bytes (r.flashes * flash_record) n;
           }

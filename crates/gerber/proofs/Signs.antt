@@ -22,7 +22,8 @@ least-test n m = bcase (ltb n (suc m)) (λ u. u ∙ sym (le-leb n m (omega (arit
 -- ten digits, as the code asks
 pub ten_digits : (z : ℤ) → coordinate_in_range z ≡ (le_z (negsuc 9999999998) z && le_z z (pos 9999999999))
 ten_digits (pos n) = least-test n 9999999999
-ten_digits (negsuc n) = bcase (leb n 9999999998) (λ u. rw u (lt-ltb (suc n) (10 ^ 10) (omega (arith, leb-true n 9999999998 u)))) (λ u. rw u (le-ltb (suc n) (10 ^ 10) (omega (arith, leb-false n 9999999998 u))))
+ten_digits (negsuc n) = bcase (leb n 9999999998) (λ u. rw u (lt-ltb (suc n) (10 ^ 10) (omega (arith, leb-true n 9999999998 u))))
+    (λ u. rw u (le-ltb (suc n) (10 ^ 10) (omega (arith, leb-false n 9999999998 u))))
 
 -- the sum of an origin and what lies right of it
 module _ (o : ℤ) (f : SFits w64 o) (s : ℕ) (small : s ≤ 1000000 * side) where
@@ -42,9 +43,6 @@ module _ (o : ℤ) (f : SFits w64 o) (s : ℕ) (small : s ≤ 1000000 * side) wh
       go : (o : ℤ) → SFits w64 o → lt_z (pos 9999999999) o ≡ false → SFits w64 (o +ℤ pos s)
       go (pos n) f t = record { sfits = omega (arith, ltb-false 9999999999 n t) }
       go (negsuc n) f t = down n f.sfits
-
-  pub in_ten_digits : coordinate_in_range (o +ℤ pos s) ≡ true → SFits w64 (o +ℤ pos s)
-  in_ten_digits t = bcase (lt_z (pos 9999999999) o) (λ u. absurd (false≢true (sym (beyond u) ∙ t))) not_beyond
 
 pub pitch_most : (pitch : ℕ) → pitch_fits pitch ≡ true → pitch ≤ 1000000
 pitch_most pitch t = leb-true pitch 1000000 (and_right (leb 2 pitch) (leb pitch 1000000) (and_left (pitch_in_range pitch) (eqb (pitch % 2) 0) t))
@@ -81,6 +79,31 @@ module _ (pitch a b : ℕ) (o : ℤ) (f : SFits w64 o) (s : ℕ) (e : s ≡ pitc
 
   pub centre-value : SFits w64 (to_z w64 (of_z w64 o) +ℤ to_z w64 s) → to_z w64 (of_z w64 (to_z w64 (of_z w64 o) +ℤ to_z w64 s)) ≡ centre pitch o a b
   centre-value g = to_z-of_z g ∙ centre-sum
+
+-- the same, compared with both ends, and kept
+module _ (pitch a b : ℕ) (o : ℤ) (f : SFits w64 o) {s : ℕ} (d : (s ≡ pitch / 2 * (a + suc b)) × (s ≤ 1000000 * side)) where
+  abbrev sum : ℤ
+  sum = to_z w64 (of_z w64 o) +ℤ to_z w64 s
+
+  module _ (t : lt_z (pos 9999999999) (to_z w64 (of_z w64 o)) ≡ false) where
+    pub sum-fits : SFits w64 sum
+    sum-fits = centre_in pitch a b o f s d.0 d.1 t
+
+    value : to_z w64 (of_z w64 sum) ≡ centre pitch o a b
+    value = centre-value pitch a b o f s d.0 d.1 sum-fits
+
+    pub not-low : le_z (negsuc 9999999998) (to_z w64 (of_z w64 sum)) ≡ true → le_z (to_z w64 (of_z w64 sum)) (pos 9999999999) ≡ coordinate_in_range (centre pitch o a b)
+    not-low u = ten_low (centre pitch o a b) (to_z w64 (of_z w64 sum)) value u
+
+    pub too-low : le_z (negsuc 9999999998) (to_z w64 (of_z w64 sum)) ≡ false → le_z (negsuc 9999999998) (to_z w64 (of_z w64 sum)) ≡ coordinate_in_range (centre pitch o a b)
+    too-low u = ten_under (centre pitch o a b) (to_z w64 (of_z w64 sum)) value u
+
+  module _ (t : coordinate_in_range (centre pitch o a b) ≡ true) where
+    pub centre-fits : SFits w64 sum
+    centre-fits = centre_known pitch a b o f s d.0 d.1 t
+
+    pub centre-told : to_z w64 (of_z w64 sum) ≡ centre pitch o a b
+    centre-told = centre-value pitch a b o f s d.0 d.1 centre-fits
 
 pub from-small : (pitch a b : ℕ) → pitch_fits pitch ≡ true → a ≤ b → b < side → pitch / 2 * (a + suc b) ≤ 1000000 * side
 from-small pitch a b p h l =

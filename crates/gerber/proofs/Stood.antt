@@ -18,7 +18,8 @@ use Rattle.text.specs.Decimal.{decimal, run}
 use Rattle.text.specs.Signed.{signed}
 use Rattle.text.specs.Words.{stands}
 use Rattle.text.proofs.Stands.{stands-front}
-use Rattle.gerber.specs.File.{Size, bytes, first_number, millimetres, aperture_line, select_line, flash_line, centre, pitch_in_range, pitch_fits}
+use Rattle.gerber.specs.File.{bytes, first_number, millimetres, aperture_line, select_line, flash_line, centre, pitch_in_range, pitch_fits}
+use Rattle.gerber.specs.declared.sizes.Size.{Size}
 use Rattle.gerber.proofs.Apart.{parted, number-apart, length-apart, coordinate_apart}
 
 -- past a line
@@ -63,7 +64,8 @@ aperture_opened pitch k y p =
 
 sides_apart : (pitch : ℕ) (y z : Size) (p q : List ℕ) → 1 ≤ pitch → sides_behind pitch y p ≡ sides_behind pitch z q → y ≡ z
 sides_apart pitch y z p q h e =
-    let a = length-apart (y.wide * pitch) (z.wide * pitch) (bytes "X" ++ (millimetres (y.high * pitch) ++ (bytes "*%\n" ++ p))) (bytes "X" ++ (millimetres (z.high * pitch) ++ (bytes "*%\n" ++ q))) (ap (drop 2) e) in
+    let a = length-apart (y.wide * pitch) (z.wide * pitch) (bytes "X" ++ (millimetres (y.high * pitch) ++ (bytes "*%\n" ++ p)))
+    (bytes "X" ++ (millimetres (z.high * pitch) ++ (bytes "*%\n" ++ q))) (ap (drop 2) e) in
     let b = length-apart (y.high * pitch) (z.high * pitch) (bytes "*%\n" ++ p) (bytes "*%\n" ++ q) (ap (drop 1) a.1) in
     let w = times-apart pitch y.wide z.wide h a.0 in
     let r = times-apart pitch y.high z.high h b.0 in
@@ -71,7 +73,8 @@ sides_apart pitch y z p q h e =
 
 apertures-apart : (pitch k : ℕ) (y z : Size) (p q : List ℕ) → 1 ≤ pitch → aperture_line pitch k y ++ p ≡ aperture_line pitch k z ++ q → y ≡ z
 apertures-apart pitch k y z p q h e =
-    let f : decimal (first_number + k) ++ sides_behind pitch y p ≡ decimal (first_number + k) ++ sides_behind pitch z q = ap (drop 4) (sym (aperture_opened pitch k y p) ∙ e ∙ aperture_opened pitch k z q) in
+    let f : decimal (first_number + k) ++ sides_behind pitch y p ≡ decimal (first_number + k) ++ sides_behind pitch z q =
+    ap (drop 4) (sym (aperture_opened pitch k y p) ∙ e ∙ aperture_opened pitch k z q) in
     sides_apart pitch y z p q h (parted (decimal (first_number + k)) (decimal (first_number + k)) (sides_behind pitch y p) (sides_behind pitch z q) refl f).1
 
 pub aperture_apart : (t : List ℕ) (i pitch k : ℕ) (y z : Size) (rest : List ℕ) → 1 ≤ pitch → drop i t ≡ aperture_line pitch k z ++ rest → stands t i (aperture_line pitch k y) ≡ true → y ≡ z
@@ -81,7 +84,8 @@ aperture_apart t i pitch k y z rest h e s = apertures-apart pitch k y z (drop (i
 selects-apart : (j k : ℕ) (p q : List ℕ) → select_line j ++ p ≡ select_line k ++ q → j ≡ k
 unfolding select_line run
 selects-apart j k p q e =
-    let f : decimal (first_number + j) ++ (bytes "*\n" ++ p) ≡ decimal (first_number + k) ++ (bytes "*\n" ++ q) = sym (append_assoc (decimal (first_number + j)) (bytes "*\n") p) ∙ ap (drop 1) e ∙ append_assoc (decimal (first_number + k)) (bytes "*\n") q in
+    let f : decimal (first_number + j) ++ (bytes "*\n" ++ p) ≡ decimal (first_number + k) ++ (bytes "*\n" ++ q) = sym (append_assoc (decimal (first_number + j)) (bytes "*\n") p)
+    ∙ ap (drop 1) e ∙ append_assoc (decimal (first_number + k)) (bytes "*\n") q in
     omega (arith, (number-apart (first_number + j) (first_number + k) (bytes "*\n" ++ p) (bytes "*\n" ++ q) refl refl f).0)
 
 pub select_apart : (t : List ℕ) (i j k : ℕ) (rest : List ℕ) → drop i t ≡ select_line k ++ rest → stands t i (select_line j) ≡ true → j ≡ k

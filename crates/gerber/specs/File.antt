@@ -1,6 +1,6 @@
 -- The Gerber file of a list of flashes (document 02, R-2), byte by byte. Lengths are in nanometres: "format 4.6, so one unit is a nanometre".
 -- Throughout, pitch is the grid's pitch, and x and y are the origin: the bottom left corner of square (0, 0).
-use Rattle.std.specs.Prelude.{Bool, true, not, cond, ◌&&◌, ◌||◌, List, [], ◌∷◌, ◌++◌, ℕ, zero, suc, ◌+◌, ◌-◌, ◌*◌, ◌/◌, ◌%◌, ◌^◌, leb, ltb, eqb, ℤ, pos, nat_abs, ◌+ℤ◌}
+use Rattle.std.specs.Prelude.{Bool, true, not, cond, ◌&&◌, ◌||◌, List, [], ◌∷◌, ◌++◌, ℕ, suc, ◌+◌, ◌-◌, ◌*◌, ◌/◌, ◌%◌, ◌^◌, leb, ltb, eqb, ℤ, pos, nat_abs, ◌+ℤ◌}
 use Rattle.std.proofs.Math.Option.{Option, none, some}
 use Prim.Native.String.{String, [] as empty, ◌∷◌ as ◌then◌}
 use Prim.Native.Char.{code}
@@ -8,8 +8,9 @@ use Rattle.lists.specs.Lists.{any, all}
 use Rattle.grid.specs.Answers.{check, version_unknown, pitch_out}
 use Rattle.grid.specs.Squares.{Rectangle}
 use Rattle.grid.specs.declared.answers.Answer.{Answer}
-use Rattle.text.specs.Decimal.{digit, decimal}
+use Rattle.text.specs.Decimal.{decimal, last_digits}
 use Rattle.text.specs.Signed.{signed}
+use Rattle.gerber.specs.declared.sizes.Size.{Size}
 
 -- a word's characters as bytes
 abbrev pub bytes : String → List ℕ
@@ -17,10 +18,6 @@ bytes empty = []
 bytes (c then word) = code c ∷ bytes word
 
 -- the size of a flash, in squares
-pub record Size : Type 0 where
-  pub wide : ℕ
-  pub high : ℕ
-
 abbrev pub size_of : Rectangle → Size
 size_of q = record { wide = suc (q.last - q.first); high = suc (q.top - q.bottom) }
 
@@ -45,11 +42,6 @@ place_of s (t ∷ sizes) = cond (is_same_size s t) 0 (suc (place_of s sizes))
 
 abbrev pub first_number : ℕ
 first_number = 10
-
--- the last digits of a number, as many as count
-unfoldable pub last_digits : ℕ → ℕ → List ℕ
-last_digits zero n = []
-last_digits (suc count) n = last_digits count (n / 10) ++ (digit (n % 10) ∷ [])
 
 -- "millimetres", `3.000000`; "a size under 1 begins `0.`"
 unfoldable pub millimetres : ℕ → List ℕ

@@ -1,7 +1,7 @@
 -- Reading a file back (document 02, R-2 and R-9): "Each line is judged by those before it". The line numbers, the flashes, and the whole outcome of a call.
 -- A line is as ruled where the text goes on with exactly the bytes of a line that may stand there, its line feed with them. So a line has one definition, in File.
 -- Throughout, pitch is the grid's pitch, x and y are the origin, text is the file, and f is what the lent flash room holds before the call.
-use Rattle.std.specs.Prelude.{◌≡◌, Bool, not, cond, ◌&&◌, List, [], ◌∷◌, ◌++◌, map, ℕ, zero, suc, ◌+◌, ◌-◌, max, leb, ltb, eqb, ℤ, length, get_or}
+use Rattle.std.specs.Prelude.{◌≡◌, Option as Maybe, Some, None, Bool, false, not, cond, ◌&&◌, List, [], ◌∷◌, ◌++◌, map, ℕ, zero, suc, ◌+◌, ◌-◌, max, leb, eqb, ℤ, length, get_or}
 use Rattle.std.proofs.Math.Option.{Option, none, some}
 use Rattle.lists.specs.Lists.{any, first, gather, from, up_to}
 use Rattle.grid.specs.Limits.{side, flash_room_size}
@@ -10,7 +10,8 @@ use Rattle.grid.specs.Squares.{Rectangle}
 use Rattle.grid.specs.declared.answers.Answer.{Answer}
 use Rattle.text.specs.Words.{stands}
 use Rattle.cover.specs.Records.{flashes_written}
-use Rattle.gerber.specs.File.{Size, attribute_line, comment_line, format_line, unit_line, is_same_size, aperture_line, select_line, centre_line, centre_fits, end_line, format_checks}
+use Rattle.gerber.specs.File.{attribute_line, comment_line, format_line, unit_line, is_same_size, aperture_line, select_line, centre_line, centre_fits, end_line, format_checks}
+use Rattle.gerber.specs.declared.sizes.Size.{Size}
 use Rattle.gerber.specs.declared.turns.Reached.{Reached}
 use Rattle.gerber.specs.declared.read.ReadOutcome.{ReadOutcome}
 
@@ -60,10 +61,14 @@ read_apertures (suc left) pitch text a = on_aperture pitch a (aperture_at pitch 
 
 -- Past the apertures, s is what the lines before have said: the number and the spot of the line that comes next, how many apertures have been used so far, and
 -- the current one, where one is.
--- a defined aperture, "in order of first use", and not the current one
-abbrev pub is_current : Reached → ℕ → Bool
-is_current s k = ltb 0 s.used && eqb k s.current
+abbrev pub is_this : Maybe ℕ → ℕ → Bool
+is_this None k = false
+is_this (Some j) k = eqb j k
 
+abbrev pub is_current : Reached → ℕ → Bool
+is_current s k = is_this s.current k
+
+-- a defined aperture, "in order of first use", and not the current one
 abbrev pub may_select : Reached → ℕ → Bool
 may_select s k = leb k s.used && not (is_current s k)
 
@@ -71,7 +76,7 @@ unfoldable pub select_at : List ℕ → ℕ → Reached → Option ℕ
 select_at text count s = first (λ k. stands text s.at (select_line k) && may_select s k) (up_to count)
 
 abbrev pub selected : Reached → ℕ → Reached
-selected s k = record { line = s.line + 1; at = s.at + length (select_line k); used = max s.used (k + 1); current = k }
+selected s k = record { line = s.line + 1; at = s.at + length (select_line k); used = max s.used (k + 1); current = Some k }
 
 -- where on the grid a flash of a size may lie
 abbrev pub placed : Size → ℕ → ℕ → Rectangle
@@ -83,12 +88,16 @@ placements z = gather (λ c. map (placed z c) (up_to (suc side - z.high))) (up_t
 abbrev pub size_at : List Size → ℕ → Size
 size_at sizes k = get_or sizes k (record { wide = 0; high = 0 })
 
--- the flash of a size at the spot, whose coordinates have at most ten digits; and that of the current aperture
+-- the flash of a size at the spot, whose coordinates have at most ten digits; and that of the current aperture, where one is
 unfoldable pub placed_at : ℕ → ℤ → ℤ → List ℕ → Size → ℕ → Option Rectangle
 placed_at pitch x y text z spot = first (λ q. stands text spot (centre_line pitch x y q) && centre_fits pitch x y q) (placements z)
 
+abbrev pub on_current : Maybe ℕ → (ℕ → Option Rectangle) → Option Rectangle
+on_current None next = none
+on_current (Some k) next = next k
+
 unfoldable pub flash_at : ℕ → ℤ → ℤ → List ℕ → List Size → Reached → Option Rectangle
-flash_at pitch x y text sizes s = cond (ltb 0 s.used) (placed_at pitch x y text (size_at sizes s.current) s.at) none
+flash_at pitch x y text sizes s = on_current s.current (λ k. placed_at pitch x y text (size_at sizes k) s.at)
 
 abbrev pub flashed : ℕ → ℤ → ℤ → Reached → Rectangle → Reached
 flashed pitch x y s q = record { line = s.line + 1; at = s.at + length (centre_line pitch x y q); used = s.used; current = s.current }
@@ -134,7 +143,7 @@ read_flashes (suc left) pitch x y text sizes qs s =
 
 -- the head, the apertures, the flashes
 abbrev pub past_apertures : Apertures → Reached
-past_apertures a = record { line = head_count + length a.sizes + 1; at = a.past; used = 0; current = 0 }
+past_apertures a = record { line = head_count + length a.sizes + 1; at = a.past; used = 0; current = None }
 
 abbrev pub read_body : ℕ → ℤ → ℤ → List ℕ → ℕ → Read
 read_body pitch x y text spot =

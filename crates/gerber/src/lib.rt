@@ -3,9 +3,11 @@
 
 pub mod apertures;
 pub mod centres;
+pub mod flashes;
 pub mod found;
 pub mod lines;
 pub mod read;
+pub mod sizes;
 pub mod turns;
 pub mod versions;
 pub mod write;

@@ -1,22 +1,25 @@
 // The lines of a file, each written at a spot.
-ghost use Rattle.std.specs.Prelude.{◌≡◌, true, [], ◌+◌, ◌<◌, ◌≤◌, length, take};
+ghost use Rattle.std.specs.Prelude.{◌≡◌, true, ◌+◌, ◌<◌, ◌≤◌, length};
+ghost use Rattle.std.proofs.Math.Option.{none};
 ghost use Rattle.grid.specs.Limits.{side};
 ghost use Rattle.grid.specs.Rooms.{Written};
-ghost use Rattle.text.specs.Line.{within};
 ghost use Rattle.cover.specs.Code.{rectangle_of, Drawn};
 ghost use Rattle.cover.specs.Records.{flashes_in};
-ghost use Rattle.gerber.specs.File.{pitch_fits, centres_fit, centre_fits, last_digits, millimetres, aperture_line, aperture_lines, select_line, flash_line, centre_line, first_line, head_lines, gerber_file};
-ghost use Rattle.gerber.specs.Code.{Noted, sizes_of, codes_used, largest_code, coded_size, coded_sizes, FlashesHeld, code_lines, selects_code};
+ghost use Rattle.gerber.specs.File.{centres_fit, centre_fits, millimetres, apertures, aperture_line, aperture_lines, select_line};
+ghost use Rattle.gerber.specs.File.{flash_line, flash_lines, centre_line, first_line, head_lines, gerber_file};
+ghost use Rattle.gerber.specs.Code.{OnGrid};
+ghost use Rattle.gerber.specs.Format.{number_of};
+ghost use Rattle.gerber.specs.Parts.{selects_at};
 
-use crate::apertures::{flash_at, place_of, size_of};
-use crate::centres::centre;
-use crate::versions::COMMENTS;
+use crate::apertures::Apertures;
+use crate::centres::Plane;
+use crate::flashes::Flashes;
+use crate::sizes::{Size, place_of, size_of};
+use crate::versions::Version;
 use cover::flashes::Flash;
-use grid::limits::{LINES, SIDE};
 use grid::rooms::put_bytes;
-use text::glyphs::ZERO;
 use text::signed::print_signed;
-use text::write::print_number;
+use text::write::{print_number, put_digits};
 
 // Apertures are numbered from D10.
 pub const FIRST_NUMBER: u64 = 10;
@@ -25,45 +28,33 @@ const MILLIMETRE: u64 = 1000000;
 
 const DECIMALS: usize = 6;
 
-// From the last to the first.
-fn put_last_digits(room: &mut [u8], spot: usize, count: usize, value: u64) -> usize
-    requires { spot + count ≤ length room.old }
-    ensures { Written room.old spot (last_digits count value) result room.new }
-{
-    let mut rest = value;
-    let mut at = spot + count;
-    while spot < at {
-        at -= 1;
-        room[at] = ZERO + (rest % 10) as u8;
-        rest /= 10;
-    }
-    spot + count
-}
-
 // A length in nanometres.
+#[tactic(auto, using(crate::proofs::Pieces::length_millimetres))]
 pub fn put_millimetres(room: &mut [u8], spot: usize, value: u64) -> usize
     requires { spot + length (millimetres value) ≤ length room.old }
     ensures { Written room.old spot (millimetres value) result room.new }
 {
     let point = print_number(room, spot, value / MILLIMETRE);
     let digits = put_bytes(room, point, b".");
-    put_last_digits(room, digits, DECIMALS, value)
+    put_digits(room, digits, DECIMALS, value)
 }
 
-fn put_aperture(room: &mut [u8], spot: usize, pitch: u64, k: usize, size: u64) -> usize
-    requires pitch_value { (pitch_fits pitch ≡ true) × (k < side) × (size ≤ largest_code) }
-    requires size_in_bounds { spot + length (aperture_line pitch k (coded_size size)) ≤ length room.old }
-    ensures { Written room.old spot (aperture_line pitch k (coded_size size)) result room.new }
+#[tactic(auto, using(crate::proofs::Pieces::length_aperture))]
+fn put_aperture(room: &mut [u8], spot: usize, plane: Plane, k: usize, size: Size) -> usize
+    requires within { (k < side) × OnGrid size }
+    requires fits { spot + length (aperture_line plane.pitch k size) ≤ length room.old }
+    ensures { Written room.old spot (aperture_line plane.pitch k size) result room.new }
 {
     let number = put_bytes(room, spot, b"%ADD");
     let form = print_number(room, number, FIRST_NUMBER + k as u64);
     let wide = put_bytes(room, form, b"R,");
-    let times = put_millimetres(room, wide, size / LINES as u64 * pitch);
+    let times = put_millimetres(room, wide, size.wide as u64 * plane.pitch);
     let high = put_bytes(room, times, b"X");
-    let end = put_millimetres(room, high, size % LINES as u64 * pitch);
+    let end = put_millimetres(room, high, size.high as u64 * plane.pitch);
     put_bytes(room, end, b"*%\n")
 }
 
+#[tactic(auto, using(crate::proofs::Pieces::length_select))]
 fn put_select(room: &mut [u8], spot: usize, k: usize) -> usize
     requires { (k ≤ side) × (spot + length (select_line k) ≤ length room.old) }
     ensures { Written room.old spot (select_line k) result room.new }
@@ -84,34 +75,33 @@ fn put_flash(room: &mut [u8], spot: usize, x: i64, y: i64) -> usize
     put_bytes(room, end, b"D03*\n")
 }
 
-fn put_centre(room: &mut [u8], spot: usize, pitch: u64, x: i64, y: i64, q: Flash) -> usize
-    requires pitch_value { (pitch_fits pitch ≡ true) × Drawn (rectangle_of q) × (centre_fits pitch x y (rectangle_of q) ≡ true) }
-    requires q_in_bounds { spot + length (centre_line pitch x y (rectangle_of q)) ≤ length room.old }
-    ensures { Written room.old spot (centre_line pitch x y (rectangle_of q)) result room.new }
+fn put_centre(room: &mut [u8], spot: usize, plane: Plane, q: Flash) -> usize
+    requires fits { Drawn (rectangle_of q) × (centre_fits plane.pitch plane.x plane.y (rectangle_of q) ≡ true) }
+    requires q_in_bounds { spot + length (centre_line plane.pitch plane.x plane.y (rectangle_of q)) ≤ length room.old }
+    ensures { Written room.old spot (centre_line plane.pitch plane.x plane.y (rectangle_of q)) result room.new }
 {
-    let across = centre(pitch, x, q.first.0, q.last.0);
-    let up = centre(pitch, y, q.bottom.0, q.top.0);
+    let across = plane.across().centre(q.first.0, q.last.0);
+    let up = plane.upward().centre(q.bottom.0, q.top.0);
     put_flash(room, spot, across, up)
 }
 
-fn put_apertures(room: &mut [u8], spot: usize, pitch: u64, sizes: &[u64], count: usize) -> usize
-    requires pitch_value { (pitch_fits pitch ≡ true) × (count ≤ side) × (count ≤ length sizes.now) × (within largest_code (take count sizes.now) ≡ true) }
-    requires sizes_in_bounds { spot + length (aperture_lines pitch 0 (coded_sizes (take count sizes.now))) ≤ length room.old }
-    ensures { Written room.old spot (aperture_lines pitch 0 (coded_sizes (take count sizes.now))) result room.new }
+fn put_apertures(room: &mut [u8], spot: usize, plane: Plane, apertures: &Apertures) -> usize
+    requires { spot + length (aperture_lines plane.pitch 0 apertures.now) ≤ length room.old }
+    ensures { Written room.old spot (aperture_lines plane.pitch 0 apertures.now) result room.new }
 {
     let mut at = spot;
-    for k in 0..count {
-        at = put_aperture(room, at, pitch, k, sizes[k]);
+    for (k, size) in apertures.sizes().iter().enumerate() {
+        at = put_aperture(room, at, plane, k, *size);
     }
     at
 }
 
-// At each change of size: the size before, 0 before the first flash.
-fn put_change(room: &mut [u8], spot: usize, before: u64, size: u64, place: usize) -> usize
-    requires { (place ≤ side) × (spot + length (selects_code before size place) ≤ length room.old) }
-    ensures { Written room.old spot (selects_code before size place) result room.new }
+// At each change of size; there is none before the first flash.
+fn put_change(room: &mut [u8], spot: usize, before: Option<Size>, size: Size, place: usize) -> usize
+    requires { (place ≤ side) × (spot + length (selects_at before size place) ≤ length room.old) }
+    ensures { Written room.old spot (selects_at before size place) result room.new }
 {
-    if before == size {
+    if before == Some(size) {
         return spot;
     }
     put_select(room, spot, place)
@@ -120,90 +110,66 @@ fn put_change(room: &mut [u8], spot: usize, before: u64, size: u64, place: usize
 fn put_flashes(
     room: &mut [u8],
     spot: usize,
-    pitch: u64,
-    x: i64,
-    y: i64,
-    records: &[u8],
-    flashes: usize,
-    sizes: &[u64],
-    count: usize,
+    plane: Plane,
+    flashes: Flashes,
+    apertures: &Apertures,
 ) -> usize
-    requires pitch_value { (pitch_fits pitch ≡ true) × FlashesHeld flashes records.now × (centres_fit pitch x y (flashes_in flashes records.now) ≡ true) }
-    requires count_le_side { (count ≤ side) × (count ≤ length sizes.now) }
-    requires records_in_bounds { spot + length (code_lines pitch x y (take count sizes.now) 0 (flashes_in flashes records.now)) ≤ length room.old }
-    ensures { Written room.old spot (code_lines pitch x y (take count sizes.now) 0 (flashes_in flashes records.now)) result room.new }
+    requires centres { centres_fit plane.pitch plane.x plane.y (flashes_in flashes.count flashes.records.now) ≡ true }
+    requires fits { spot + length (flash_lines plane.pitch plane.x plane.y apertures.now none (flashes_in flashes.count flashes.records.now)) ≤ length room.old }
+    ensures { Written room.old spot (flash_lines plane.pitch plane.x plane.y apertures.now none (flashes_in flashes.entry.count flashes.entry.records.now)) result room.new }
 {
     let mut at = spot;
-    let mut before: u64 = 0;
-    for k in 0..flashes {
-        let q = flash_at(records, k);
+    let mut before = None;
+    for k in 0..flashes.count {
+        let q = flashes.at(k);
         let size = size_of(q);
-        let line = put_change(room, at, before, size, place_of(sizes, count, size));
-        at = put_centre(room, line, pitch, x, y, q);
-        before = size;
+        let line = put_change(room, at, before, size, place_of(apertures.sizes(), size));
+        at = put_centre(room, line, plane, q);
+        before = Some(size);
     }
     at
 }
 
-// The size put behind the others, unless it is one of them.
-fn note_size(sizes: &mut [u64], count: usize, size: u64) -> usize
-    requires { count < length sizes.old }
-    ensures { Noted sizes.old count size result sizes.new }
+// The distinct sizes of the flashes, in order of first use.
+fn used_by(flashes: Flashes) -> Apertures
+    ensures { result ≡ apertures (flashes_in flashes.entry.count flashes.entry.records.now) }
 {
-    if place_of(sizes, count, size) < count {
-        return count;
+    let mut apertures = Apertures::none();
+    for k in 0..flashes.count {
+        apertures.note(size_of(flashes.at(k)));
     }
-    sizes[count] = size;
-    count + 1
+    apertures
 }
 
-// The apertures of a list of flashes: the distinct sizes in order of first use.
-fn note_sizes(records: &[u8], flashes: usize, sizes: &mut [u64]) -> usize
-    requires { FlashesHeld flashes records.now × (flashes ≤ length sizes.old) }
-    ensures { (take result sizes.new ≡ codes_used [] (sizes_of (flashes_in flashes records.now))) × (result ≤ flashes) × (length sizes.new ≡ length sizes.old) }
+#[tactic(auto, unfolding(crate::specs::File::first_line))]
+fn put_first(room: &mut [u8], version: Version) -> usize
+    requires { length (first_line (number_of version)) ≤ length room.old }
+    ensures { Written room.old 0 (first_line (number_of version)) result room.new }
 {
-    let mut count = 0;
-    for k in 0..flashes {
-        count = note_size(sizes, count, size_of(flash_at(records, k)));
+    match version {
+        Version::Comments => put_bytes(room, 0, b"G04 #@! TF.FileFunction,Copper,L1,Top*\n"),
+        Version::Attributes => put_bytes(room, 0, b"%TF.FileFunction,Copper,L1,Top*%\n"),
     }
-    count
 }
 
-fn put_first(room: &mut [u8], version: u64) -> usize
-    requires { length (first_line version) ≤ length room.old }
-    ensures { Written room.old 0 (first_line version) result room.new }
-{
-    if version == COMMENTS {
-        return put_bytes(room, 0, b"G04 #@! TF.FileFunction,Copper,L1,Top*\n");
-    }
-    put_bytes(room, 0, b"%TF.FileFunction,Copper,L1,Top*%\n")
-}
-
+// A version that is not known has the second one's first line, as the definition has it.
 fn put_head(room: &mut [u8], version: u64) -> usize
     requires { length (head_lines version) ≤ length room.old }
     ensures { Written room.old 0 (head_lines version) result room.new }
 {
-    let format = put_first(room, version);
+    let form = Version::try_from(version).unwrap_or(Version::Attributes);
+    let format = put_first(room, form);
     put_bytes(room, format, b"%FSLAX46Y46*%\n%MOMM*%\n")
 }
 
-pub fn put_file(
-    room: &mut [u8],
-    version: u64,
-    pitch: u64,
-    x: i64,
-    y: i64,
-    records: &[u8],
-    flashes: usize,
-) -> usize
-    requires pitch_value { (pitch_fits pitch ≡ true) × FlashesHeld flashes records.now × (centres_fit pitch x y (flashes_in flashes records.now) ≡ true) }
-    requires records_in_bounds { length (gerber_file version pitch x y (flashes_in flashes records.now)) ≤ length room.old }
-    ensures { Written room.old 0 (gerber_file version pitch x y (flashes_in flashes records.now)) result room.new }
+pub fn put_file(room: &mut [u8], version: u64, plane: Plane, flashes: Flashes) -> usize
+    requires centres { centres_fit plane.pitch plane.x plane.y (flashes_in flashes.count flashes.records.now) ≡ true }
+    requires fits { length (gerber_file version plane.pitch plane.x plane.y (flashes_in flashes.count flashes.records.now)) ≤ length room.old }
+    ensures { Written room.old 0 (gerber_file version plane.pitch plane.x plane.y (flashes_in flashes.entry.count flashes.entry.records.now)) result room.new }
 {
-    let mut sizes = [0u64; SIDE];
-    let count = note_sizes(records, flashes, &mut sizes);
+    let apertures = used_by(flashes);
     let first = put_head(room, version);
-    let next = put_apertures(room, first, pitch, &sizes, count);
-    let end = put_flashes(room, next, pitch, x, y, records, flashes, &sizes, count);
+    let next = put_apertures(room, first, plane, &apertures);
+    let end = put_flashes(room, next, plane, flashes, &apertures);
     put_bytes(room, end, b"M02*\n")
 }

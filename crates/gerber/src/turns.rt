@@ -1,19 +1,22 @@
 // The lines of a file past its head: an aperture; a select, a flash, the end.
-ghost use Rattle.std.specs.Prelude.{◌≡◌, true, ◌+◌, ◌<◌, ◌≤◌, ◌^◌, max, length, take};
+ghost use Rattle.std.specs.Prelude.{◌≡◌, ◌+◌, ◌<◌, ◌≤◌, ◌^◌, length};
 ghost use Rattle.grid.specs.Limits.{side};
+ghost use Rattle.grid.specs.declared.answers.Refusal.TheVariants.{BadFileLine};
 ghost use Rattle.text.specs.Words.{found};
-ghost use Rattle.gerber.specs.File.{pitch_fits, aperture_line, select_line, end_line};
-ghost use Rattle.gerber.specs.Code.{coded_sizes};
-ghost use Rattle.gerber.specs.Reading.{aperture_at, select_at, is_current, may_select, placed_at, flash_at, selected, turned, end_turn, flash_turn};
-ghost use Rattle.gerber.specs.Parts.{found_of, found_select, number_line, number_stands, size_found, SizesHeld, Sound, turn_of};
+ghost use Rattle.gerber.specs.File.{aperture_line, centre_line, select_line, end_line};
+ghost use Rattle.gerber.specs.Code.{OnGrid};
+ghost use Rattle.gerber.specs.Reading.{aperture_at, select_at, may_select, placed_at, flash_at, selected, turned, end_turn, flash_turn};
+ghost use Rattle.gerber.specs.Parts.{found_of, found_select, number_line, number_stands, Sound, flash_found, turn_of};
 
-use crate::apertures::place_of;
-use crate::found::{Found, find_side, find_square, number_at};
+use crate::apertures::Apertures;
+use crate::centres::Plane;
+use crate::found::{find_first, find_side, find_square, number_at};
 use crate::lines::FIRST_NUMBER;
+use crate::sizes::Size;
 use cover::flashes::Flash;
-use grid::limits::LINES;
+use grid::answers::Refusal;
 use grid::lines::{Column, Row};
-use text::read::{Next, read_word};
+use text::read::read_word;
 
 // What the lines before have said, past the apertures: the number and the spot of the line that comes next, how many apertures
 // have been used, and the current one.
@@ -22,92 +25,75 @@ pub struct Reached {
     pub line: usize,
     pub at: usize,
     pub used: usize,
-    pub current: usize,
+    pub current: Option<usize>,
 }
 
-// A flash, with a select before it or not; or the end; or the number of a line that is not as ruled.
-#[derive(Clone, Copy)]
-pub enum Turn {
-    Flash(Flash, Reached),
-    Over,
-    Bad(usize),
+// The number of a line that is not as ruled.
+#[derive(Clone, Copy, Debug, PartialEq, Eq)]
+pub struct BadLine(pub usize);
+
+impl From<BadLine> for Refusal {
+    ghost from_gives = { λ line r. r ≡ BadFileLine line.0 };
+
+    fn from(line: BadLine) -> Refusal
+        ensures { result ≡ BadFileLine line.0 }
+    {
+        Refusal::BadFileLine(line.0)
+    }
 }
 
 // The size of the aperture line at the spot, which is the next one and not among the others.
-pub fn read_aperture(text: &[u8], spot: usize, pitch: u64, sizes: &[u64], count: usize) -> Found
-    requires { (pitch_fits pitch ≡ true) × SizesHeld count sizes.now }
-    ensures { result ≡ size_found (aperture_at pitch text.now (coded_sizes (take count sizes.now)) spot) (λ z. spot + length (aperture_line pitch count z)) }
+pub fn read_aperture(
+    text: &[u8],
+    spot: usize,
+    plane: Plane,
+    apertures: &Apertures,
+) -> Option<(Size, usize)>
+    ensures { result ≡ found_of (aperture_at plane.pitch text.now apertures.now spot) (λ z. spot + length (aperture_line plane.pitch (length apertures.now) z)) }
 {
-    let Next::Spot(number) = read_word(text, spot, b"%ADD") else {
-        return Found::Nothing;
-    };
-    let Next::Spot(across) = number_at(text, number, FIRST_NUMBER + count as u64, b"R,") else {
-        return Found::Nothing;
-    };
-    let Found::At(wide, up) = find_side(text, across, pitch, b"X") else {
-        return Found::Nothing;
-    };
-    let Found::At(high, end) = find_side(text, up, pitch, b"*%\n") else {
-        return Found::Nothing;
-    };
-    let size = wide * LINES + high;
-    if place_of(sizes, count, size as u64) < count {
-        return Found::Nothing;
+    let sizes = apertures.sizes();
+    let number = read_word(text, spot, b"%ADD")?;
+    let across = number_at(text, number, FIRST_NUMBER + sizes.len() as u64, b"R,")?;
+    let (wide, up) = find_side(text, across, plane, b"X")?;
+    let (high, end) = find_side(text, up, plane, b"*%\n")?;
+    let size = Size { wide, high };
+    if sizes.contains(&size) {
+        return None;
     }
-    Found::At(size, end)
-}
-
-fn is_current(s: Reached, k: usize) -> bool
-    ensures { result ≡ is_current s k }
-{
-    0 < s.used && k == s.current
+    Some((size, end))
 }
 
 // A defined aperture, in order of first use, and not the current one.
 fn may_select(s: Reached, k: usize) -> bool
     ensures { result ≡ may_select s k }
 {
-    k <= s.used && !is_current(s, k)
+    k <= s.used && s.current != Some(k)
 }
 
 // The number of an aperture that may be selected, and the end of its line.
-fn select_at(text: &[u8], spot: usize, s: Reached, k: usize) -> Next
+fn select_at(text: &[u8], spot: usize, s: Reached, k: usize) -> Option<usize>
     requires { k < side }
     ensures { result ≡ found (number_stands text.now spot s k) (spot + length (number_line k)) }
 {
     if !may_select(s, k) {
-        return Next::Nothing;
+        return None;
     }
     number_at(text, spot, FIRST_NUMBER + k as u64, b"*\n")
 }
 
-fn find_select(text: &[u8], spot: usize, count: usize, s: Reached) -> Found
+fn find_select(text: &[u8], spot: usize, count: usize, s: Reached) -> Option<(usize, usize)>
     requires { count ≤ side }
     ensures { result ≡ found_select text.now spot count s }
 {
-    for k in 0..count {
-        let at = select_at(text, spot, s, k);
-        if let Next::Spot(next) = at {
-            return Found::At(k, next);
-        }
-    }
-    Found::Nothing
+    find_first(0, count, |k| select_at(text, spot, s, k))
 }
 
-fn read_select(text: &[u8], count: usize, s: Reached) -> Found
+fn read_select(text: &[u8], count: usize, s: Reached) -> Option<(usize, usize)>
     requires { count ≤ side }
     ensures { result ≡ found_of (select_at text.now count s) (λ k. s.at + length (select_line k)) }
 {
-    let Next::Spot(number) = read_word(text, s.at, b"D") else {
-        return Found::Nothing;
-    };
+    let number = read_word(text, s.at, b"D")?;
     find_select(text, number, count, s)
-}
-
-fn greater(a: usize, b: usize) -> usize
-    ensures { result ≡ max a b }
-{
-    if a < b { b } else { a }
 }
 
 fn selected(s: Reached, k: usize, next: usize) -> Reached
@@ -117,91 +103,83 @@ fn selected(s: Reached, k: usize, next: usize) -> Reached
     Reached {
         line: s.line + 1,
         at: next,
-        used: greater(s.used, k + 1),
-        current: k,
+        used: s.used.max(k + 1),
+        current: Some(k),
     }
 }
 
-// A flash of the current aperture, whose size is so many squares wide and high.
-fn read_flash(text: &[u8], pitch: u64, x: i64, y: i64, wide: usize, high: usize, s: Reached) -> Turn
-    requires { (pitch_fits pitch ≡ true) × (1 ≤ wide) × (wide ≤ side) × (1 ≤ high) × (high ≤ side) × (s.line < 2 ^ 32) }
-    ensures { result ≡ turn_of (flash_turn pitch x y s (placed_at pitch x y text.now (record { wide = wide; high = high }) s.at)) }
+// A flash of the size.
+fn read_flash(text: &[u8], plane: Plane, size: Size, spot: usize) -> Option<(Flash, usize)>
+    requires { OnGrid size }
+    ensures { result ≡ flash_found (placed_at plane.pitch plane.x plane.y text.now size spot) (λ q. spot + length (centre_line plane.pitch plane.x plane.y q)) }
 {
-    let Next::Spot(across) = read_word(text, s.at, b"X") else {
-        return Turn::Bad(s.line);
+    let across = read_word(text, spot, b"X")?;
+    let (column, up) = find_square(text, across, plane.across(), size.wide, b"Y")?;
+    let (row, end) = find_square(text, up, plane.upward(), size.high, b"D03*\n")?;
+    let flash = Flash {
+        first: Column(column),
+        last: Column(column + size.wide - 1),
+        bottom: Row(row),
+        top: Row(row + size.high - 1),
     };
-    let Found::At(column, up) = find_square(text, across, pitch, x, wide, b"Y") else {
-        return Turn::Bad(s.line);
-    };
-    let Found::At(row, end) = find_square(text, up, pitch, y, high, b"D03*\n") else {
-        return Turn::Bad(s.line);
-    };
-    Turn::Flash(
-        Flash {
-            first: Column(column),
-            last: Column(column + wide - 1),
-            bottom: Row(row),
-            top: Row(row + high - 1),
-        },
-        Reached {
-            line: s.line + 1,
-            at: end,
-            used: s.used,
-            current: s.current,
-        },
-    )
+    Some((flash, end))
 }
 
+// A flash of the current aperture.
 fn flash_turn(
     text: &[u8],
-    pitch: u64,
-    x: i64,
-    y: i64,
-    sizes: &[u64],
-    count: usize,
+    plane: Plane,
+    apertures: &Apertures,
     s: Reached,
-) -> Turn
-    requires { (pitch_fits pitch ≡ true) × SizesHeld count sizes.now × Sound count s }
-    ensures { result ≡ turn_of (flash_turn pitch x y s (flash_at pitch x y text.now (coded_sizes (take count sizes.now)) s)) }
+) -> Result<Option<(Flash, Reached)>, BadLine>
+    requires { Sound (length apertures.now) s }
+    ensures { result ≡ turn_of (flash_turn plane.pitch plane.x plane.y s (flash_at plane.pitch plane.x plane.y text.now apertures.now s)) }
 {
-    if s.used == 0 {
-        return Turn::Bad(s.line);
-    }
-    let current = s.current;
-    let size = sizes[current] as usize;
-    read_flash(text, pitch, x, y, size / LINES, size % LINES, s)
+    let current = s.current.ok_or(BadLine(s.line))?;
+    let size = apertures.sizes()[current];
+    let (flash, at) = read_flash(text, plane, size, s.at).ok_or(BadLine(s.line))?;
+    let next = Reached {
+        line: s.line + 1,
+        at,
+        ..s
+    };
+    Ok(Some((flash, next)))
 }
 
-fn end_turn(text: &[u8], count: usize, s: Reached, end: usize) -> Turn
+fn end_turn(
+    text: &[u8],
+    count: usize,
+    s: Reached,
+    end: usize,
+) -> Result<Option<(Flash, Reached)>, BadLine>
     requires { (s.line < 2 ^ 32) × (end ≡ s.at + length end_line) }
     ensures { result ≡ turn_of (end_turn text.now count s) }
 {
     if s.used != count {
-        return Turn::Bad(s.line);
+        return Err(BadLine(s.line));
     }
     if end != text.len() {
-        return Turn::Bad(s.line + 1);
+        return Err(BadLine(s.line + 1));
     }
-    Turn::Over
+    Ok(None)
 }
 
+// A flash, with a select before it or not; or none at the end.
 pub fn take_turn(
     text: &[u8],
-    pitch: u64,
-    x: i64,
-    y: i64,
-    sizes: &[u64],
-    count: usize,
+    plane: Plane,
+    apertures: &Apertures,
     s: Reached,
-) -> Turn
-    requires { (pitch_fits pitch ≡ true) × SizesHeld count sizes.now × Sound count s × (s.line + 1 < 2 ^ 32) }
-    ensures { result ≡ turn_of (turned pitch x y text.now (coded_sizes (take count sizes.now)) s) }
+) -> Result<Option<(Flash, Reached)>, BadLine>
+    requires { Sound (length apertures.now) s × (s.line + 1 < 2 ^ 32) }
+    ensures { result ≡ turn_of (turned plane.pitch plane.x plane.y text.now apertures.now s) }
 {
-    if let Found::At(k, next) = read_select(text, count, s) {
-        return flash_turn(text, pitch, x, y, sizes, count, selected(s, k, next));
+    let count = apertures.sizes().len();
+    if let Some((k, next)) = read_select(text, count, s) {
+        return flash_turn(text, plane, apertures, selected(s, k, next));
     }
-    if let Next::Spot(end) = read_word(text, s.at, b"M02*\n") {
+    if let Some(end) = read_word(text, s.at, b"M02*\n") {
         return end_turn(text, count, s, end);
     }
-    flash_turn(text, pitch, x, y, sizes, count, s)
+    flash_turn(text, plane, apertures, s)
 }

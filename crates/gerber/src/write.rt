@@ -1,17 +1,18 @@
 // Writing a file: all that the cover does, held back in rooms of its own; then the file's own checks; then the rooms are written.
-ghost use Rattle.std.specs.Prelude.{◌≡◌, ◌&&◌, leb};
+ghost use Rattle.std.specs.Prelude.{◌≡◌, ◌&&◌, leb, IfOk};
 ghost use Rattle.grid.specs.Limits.{flash_room_size, mark_room_size};
-ghost use Rattle.grid.specs.Answers.{first_refusal};
+ghost use Rattle.grid.specs.Answers.{first_refusal, answer_of, answered};
 ghost use Rattle.cover.specs.Code.{outcome_of};
 ghost use Rattle.cover.specs.Records.{flashes_in};
+ghost use Rattle.gerber.specs.Format.{number_of};
 ghost use Rattle.gerber.specs.Writing.{file_checks, with_length, WritesGerber};
-ghost use Rattle.gerber.specs.Code.{FlashesHeld};
 
-use crate::centres::centres_fit;
+use crate::centres::Plane;
+use crate::flashes::Flashes;
 use crate::lines::put_file;
-use crate::versions::format_checked;
+use crate::versions::{Version, format_checked};
 use cover::entry::{Outcome, keekaboor_cover};
-use grid::answers::Answer;
+use grid::answers::{Refusal, check};
 use grid::rooms::put_bytes;
 use grid::{answers, limits};
 
@@ -44,18 +45,13 @@ fn with_length(o: Outcome, length: usize) -> WriteOutcome
     }
 }
 
-fn refused(a: Answer) -> WriteOutcome
-    ensures { result ≡ with_length (outcome_of a) 0 }
-{
-    WriteOutcome {
-        answer: a.number,
-        place_x: a.x,
-        place_y: a.y,
-        flashes: 0,
-        marks: 0,
-        copper: 0,
-        flashed: 0,
-        length: 0,
+impl From<Refusal> for WriteOutcome {
+    ghost from_gives = { λ r o. o ≡ with_length (outcome_of (answer_of r)) 0 };
+
+    fn from(refusal: Refusal) -> WriteOutcome
+        ensures { result ≡ with_length (outcome_of (answer_of refusal)) 0 }
+    {
+        with_length(Outcome::from(refusal), 0)
     }
 }
 
@@ -65,29 +61,22 @@ fn rooms_fit(flash_room: usize, mark_room: usize) -> bool
     limits::FLASH_ROOM <= flash_room && limits::MARK_ROOM <= mark_room
 }
 
-// The checks of the file: 21, 13, 14, 15. Centres are looked at only with a pitch that fits.
+// 21, 13, 14, 15.
 fn file_checked(
     version: u64,
     pitch: u64,
     x: i64,
     y: i64,
-    records: &[u8],
-    flashes: usize,
+    flashes: Flashes,
     file_room: usize,
-) -> Answer
-    requires { FlashesHeld flashes records.now }
-    ensures { result ≡ first_refusal (file_checks version pitch x y (flashes_in flashes records.now) file_room) }
+) -> Result<(Version, Plane), Refusal>
+    ensures value { answered result ≡ first_refusal (file_checks version pitch x y (flashes_in flashes.entry.count flashes.entry.records.now) file_room) }
+    ensures format { IfOk result (λ f. (number_of f.0 ≡ version) × (f.1.pitch ≡ pitch) × (f.1.x ≡ x) × (f.1.y ≡ y)) }
 {
-    let format = format_checked(version, pitch);
-    if format.number != answers::DONE {
-        return format;
-    }
-    Answer::done()
-        .unless(
-            centres_fit(pitch, x, y, records, flashes),
-            answers::CENTRE_OUT,
-        )
-        .unless(limits::FILE_ROOM <= file_room, answers::FILE_ROOM_SHORT)
+    let (version, plane) = format_checked(version, pitch, x, y)?;
+    check(plane.centres_fit(flashes), Refusal::CentreOut)?;
+    check(limits::FILE_ROOM <= file_room, Refusal::FileRoomShort)?;
+    Ok((version, plane))
 }
 
 pub fn keekaboor_write_gerber(
@@ -115,16 +104,21 @@ pub fn keekaboor_write_gerber(
     let covered = keekaboor_cover(width, height, allowance, raster, &mut flashes, &mut marks);
     let mark_end = covered.marks as usize * limits::MARK_RECORD;
     if covered.answer != answers::DONE {
-        put_bytes(mark_room, 0, &marks[0..mark_end]);
+        put_bytes(mark_room, 0, &marks[..mark_end]);
         return with_length(covered, 0);
     }
     let count = covered.flashes as usize;
-    let checked = file_checked(version, pitch, x, y, &flashes, count, file_room.len());
-    if checked.number != answers::DONE {
-        return refused(checked);
+    let listed = Flashes {
+        records: &flashes,
+        count,
+    };
+    match file_checked(version, pitch, x, y, listed, file_room.len()) {
+        Err(refusal) => WriteOutcome::from(refusal),
+        Ok((_, plane)) => {
+            let length = put_file(file_room, version, plane, listed);
+            put_bytes(flash_room, 0, &flashes[..count * limits::FLASH_RECORD]);
+            put_bytes(mark_room, 0, &marks[..mark_end]);
+            with_length(covered, length)
+        }
     }
-    let length = put_file(file_room, version, pitch, x, y, &flashes, count);
-    put_bytes(flash_room, 0, &flashes[0..count * limits::FLASH_RECORD]);
-    put_bytes(mark_room, 0, &marks[0..mark_end]);
-    with_length(covered, length)
 }

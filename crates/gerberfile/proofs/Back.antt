@@ -1,11 +1,14 @@
 -- What reading a file back gave, printed. Its flashes are no more than the grid has columns, since their records are in the room.
-use mathlib.Core.Path.{◌≡◌, sym, ap, subst}
+use mathlib.Core.Path.{◌≡◌, sym, ap, subst, ◌∙◌}
 use mathlib.Core.Bool.{true, false}
 use mathlib.Core.List.{List}
 use Prim.Native.Nat.{ℕ, ◌+◌, ◌≤◌}
 use native.Mathlib.Omega.{arith}
 use lib.Dec.{eqb}
 use lib.IntN.{ℤ}
+use mir.Syntax.{w64}
+use mir.Val.{SFits, of_z, to_z}
+use mir.Facts.{to_z-of_z}
 use lib.ListN.{length, drop, replicate, length-append}
 use Rattle.lists.specs.Lists.{gather}
 use Rattle.lists.proofs.Truth.{bcase}
@@ -38,7 +41,11 @@ module _ (a : Answer) (r : Read) (f : List ℕ) where
   either-few : Few (or_flashes a r f)
   either-few = bcase (eqb a.number 0) (λ u. subst Few (sym (passed u)) (written-few (flashes_of r) f)) (λ u. subst Few (sym (refused u)) (λ l. omega arith))
 
-module _ (text : List ℕ) (version pitch : ℕ) (x y : ℤ) {g : Given} (e : g ≡ read_gives version pitch x y text (replicate flash_room_size 0)) where
+module _ (text : List ℕ) (version pitch : ℕ) (x y : ℤ) (fx : SFits w64 x) (fy : SFits w64 y) {g : Given}
+    (called : g ≡ read_gives version pitch (to_z w64 (of_z w64 x)) (to_z w64 (of_z w64 y)) text (replicate flash_room_size 0)) where
+  e : g ≡ read_gives version pitch x y text (replicate flash_room_size 0)
+  e = called ∙ (λ i. read_gives version pitch (to_z-of_z fx i) (to_z-of_z fy i) text (replicate flash_room_size 0))
+
   pub few-flashes : length g.flashes_after ≤ flash_room_size → g.outcome.flashes ≤ side
   unfolding read_gives
   few-flashes =

@@ -37,6 +37,7 @@ module _ (w h k : ℕ) (raster : List ℕ) (version pitch : ℕ) (x y : ℤ) (f 
       by_cases (ℕ_discrete covered.outcome.answer 0)
       (λ z.
       by_cases (ℕ_discrete checked.number 0)
-      (λ p. subst (Few (length t)) (write_done w h k raster version pitch x y f m t T z refl p) (T.few-marks, file-fits version pitch x y covered.outcome.flashes covered.flashes_after (length t) (T.held z) p))
+      (λ p. subst (Few (length t)) (write_done w h k raster version pitch x y f m t T z refl p)
+      (T.few-marks, file-fits version pitch x y covered.outcome.flashes covered.flashes_after (length t) (T.held z) p))
       (λ n. subst (Few (length t)) (write_refused w h k raster version pitch x y f m t T z refl n) (omega arith, omega arith)))
       (λ n. subst (Few (length t)) (write_none w h k raster version pitch x y f m t T n) (T.few-marks, omega arith))

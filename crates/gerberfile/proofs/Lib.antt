@@ -1,4 +1,3 @@
-pub mod Numbers
 pub mod Few
 pub mod Texts
 pub mod Back

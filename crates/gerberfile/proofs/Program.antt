@@ -11,26 +11,26 @@ use Rattle.grid.specs.Limits.{side, raster_room}
 use Rattle.grid.specs.declared.raster.Job.{Job}
 use Rattle.grid.specs.Rooms.{written}
 use Rattle.grid.proofs.Writing.{through-written}
-use Rattle.job.specs.Reading.{judged, raster_from, read_outcome, ReadJob}
-use Rattle.job.specs.declared.read.Judged.{Judged}
-use Rattle.job.specs.declared.read.Judged.TheVariants.{Refused, Fine}
+use Rattle.std.specs.Prelude.{Option, Some, None, Ok, Err}
+use Rattle.job.specs.Reading.{Judged, judged, raster_from, read_outcome, ReadJob}
 use Rattle.job.specs.declared.read.ReadOutcome.{ReadOutcome}
 use Rattle.job.proofs.Rows.{length-raster}
 use Rattle.job.proofs.Judging.{judged-fine}
 use Rattle.job.proofs.Outcomes.{ReadDone, read_done}
-use Rattle.gerberfile.specs.Words.{asked_by}
+use Rattle.printed.specs.Printed.{refusal_line}
+use Rattle.gerberfile.proofs.Texts.{refused-line}
+use Rattle.gerberfile.specs.Words.{word_number, asked_by}
 use Rattle.gerberfile.specs.Program.{refused_text, file_text, judged_text, job_text, read_text, task_text, wrong_text, asked_text, program_text}
 use Rattle.text.specs.Words.{word_at}
-use Rattle.text.specs.declared.read.Next.{Next}
-use Rattle.text.specs.declared.read.Next.TheVariants.{Spot, Nothing}
 use Rattle.gerber.specs.File.{bytes}
-use Rattle.gerberfile.specs.declared.call.Numbers.TheVariants.{Given, Wrong}
+use Rattle.gerberfile.specs.declared.call.Call.{Call}
+use Rattle.gerberfile.specs.declared.call.WrongWord.{WrongWord}
 
 module _ (text : List ℕ) (version pitch : ℕ) (x y : ℤ) where
   -- a text that was refused
   refused-from : (r : ReadOutcome) (j : Judged) → r ≡ read_outcome j → (r.answer ≡ 0 → ⊥) → refused_text r.answer r.place_x r.place_y 0 [] ≡ judged_text text version pitch x y j
-  refused-from r (Refused a) e n = ap (λ (o : ReadOutcome). refused_text o.answer o.place_x o.place_y 0 []) e
-  refused-from r (Fine job spot) e n = absurd (n (ap (λ (o : ReadOutcome). o.answer) e))
+  refused-from r (Err a) e n = ap (λ (o : ReadOutcome). refused_text o.answer o.place_x o.place_y 0 []) e
+  refused-from r (Ok (job, spot)) e n = absurd (n (ap (λ (o : ReadOutcome). o.answer) e))
 
   -- a text that was read as a job: the raster fits its room, and writing the front of the room gives the program's text
   pub record Ready (r : ReadOutcome) (after : List ℕ) : Type 0 where
@@ -38,11 +38,11 @@ module _ (text : List ℕ) (version pitch : ℕ) (x y : ℤ) where
     pub same : file_text r.width r.height r.allowance (take (r.width * r.height) after) version pitch x y ≡ job_text text version pitch x y
 
   module _ (room after : List ℕ) (r : ReadOutcome) (long : length room ≡ raster_room) (read : ReadJob text room r after) where
-    pub unread : (r.answer ≡ 0 → ⊥) → refused_text r.answer r.place_x r.place_y 0 [] ≡ job_text text version pitch x y
+    pub unread : (r.answer ≡ 0 → ⊥) → refusal_line (record { number = r.answer; x = r.place_x; y = r.place_y }) ≡ job_text text version pitch x y
     unfolding job_text
-    unread = refused-from r (judged text raster_room) (read.outcome ∙ ap (λ (n : ℕ). read_outcome (judged text n)) long)
+    unread e = refused-line r.answer r.place_x r.place_y e ∙ refused-from r (judged text raster_room) (read.outcome ∙ ap (λ (n : ℕ). read_outcome (judged text n)) long) e
 
-    fine-ready : (job : Job) (spot : ℕ) → ReadDone text room r after job spot → Ready (read_outcome (Fine job spot)) after
+    fine-ready : (job : Job) (spot : ℕ) → ReadDone text room r after job spot → Ready (read_outcome (Ok (job, spot))) after
     unfolding job_text
     fine-ready job spot d =
         let w : ℕ = job.size.width in
@@ -65,18 +65,18 @@ module _ (text : List ℕ) (version pitch : ℕ) (x y : ℤ) where
         let d = read_done read z in
         subst (λ (o : ReadOutcome). Ready o after) (sym d.2.outcome) (fine-ready d.0 d.1 d.2)
 
-module _ (text : List ℕ) (version pitch : ℕ) (x y : ℤ) {found : Next} where
-  pub task_reads : {next : ℕ} → found ≡ Spot next → read_text text version pitch x y ≡ task_text found text version pitch x y
+module _ (text : List ℕ) (version pitch : ℕ) (x y : ℤ) {found : Option ℕ} where
+  pub task_reads : {next : ℕ} → found ≡ Some next → read_text text version pitch x y ≡ task_text found text version pitch x y
   task_reads e = sym (ap (λ n. task_text n text version pitch x y) e)
 
-  pub task_writes : found ≡ Nothing → job_text text version pitch x y ≡ task_text found text version pitch x y
+  pub task_writes : found ≡ None → job_text text version pitch x y ≡ task_text found text version pitch x y
   task_writes e = sym (ap (λ n. task_text n text version pitch x y) e)
 
 module _ (task version pitch x y text : List ℕ) where
-  pub wrong_text_lem : (word : ℕ) → asked_by version pitch x y ≡ Wrong word → wrong_text word ≡ program_text task version pitch x y text
+  pub wrong_text_lem : (word : WrongWord) → asked_by version pitch x y ≡ Err word → wrong_text (word_number word) ≡ program_text task version pitch x y text
   unfolding program_text
   wrong_text_lem word e = sym (ap (asked_text task text) e)
 
-  pub named_text : (v p : ℕ) (a b : ℤ) → asked_by version pitch x y ≡ Given v p a b → task_text (word_at task 0 (bytes "read")) text v p a b ≡ program_text task version pitch x y text
+  pub named_text : (c : Call) → asked_by version pitch x y ≡ Ok c → task_text (word_at task 0 (bytes "read")) text c.version c.pitch c.x c.y ≡ program_text task version pitch x y text
   unfolding program_text
-  named_text v p a b e = sym (ap (asked_text task text) e)
+  named_text c e = sym (ap (asked_text task text) e)

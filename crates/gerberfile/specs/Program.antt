@@ -1,21 +1,17 @@
 -- What the Gerber program prints for its words and a text on standard input.
-use Rattle.std.specs.Prelude.{cond, List, [], ◌∷◌, ℕ, eqb, ℤ, replicate, take}
+use Rattle.std.specs.Prelude.{cond, List, [], ◌∷◌, ℕ, eqb, ℤ, replicate, take, Option, Some, None, Result, Ok, Err}
 use Rattle.grid.specs.Limits.{flash_room_size, mark_room_size, raster_room, file_room_size}
 use Rattle.text.specs.Line.{line}
-use Rattle.job.specs.Reading.{judged, raster_from}
-use Rattle.job.specs.declared.read.Judged.{Judged}
-use Rattle.job.specs.declared.read.Judged.TheVariants.{Refused, Fine}
+use Rattle.job.specs.Reading.{Judged, judged, raster_from}
 use Rattle.printed.specs.Printed.{printed, flash_lines}
 use Rattle.gerber.specs.File.{bytes}
 use Rattle.gerber.specs.Writing.{Given, write_gives}
 use Rattle.gerber.specs.Reading.{read_gives}
 use Rattle.gerber.specs.declared.read.ReadOutcome.{ReadOutcome}
 use Rattle.text.specs.Words.{word_at}
-use Rattle.text.specs.declared.read.Next.{Next}
-use Rattle.text.specs.declared.read.Next.TheVariants.{Spot, Nothing}
-use Rattle.gerberfile.specs.Words.{asked_by}
-use Rattle.gerberfile.specs.declared.call.Numbers.{Numbers}
-use Rattle.gerberfile.specs.declared.call.Numbers.TheVariants.{Given as Named, Wrong}
+use Rattle.gerberfile.specs.Words.{word_number, asked_by}
+use Rattle.gerberfile.specs.declared.call.Call.{Call}
+use Rattle.gerberfile.specs.declared.call.WrongWord.{WrongWord}
 
 -- `wrong` and which word of the call is no number
 abbrev pub wrong_text : ℕ → List ℕ
@@ -37,8 +33,8 @@ file_text w h k raster version pitch x y = given_text (write_gives w h k raster 
 
 -- the job is read first
 abbrev pub judged_text : List ℕ → ℕ → ℕ → ℤ → ℤ → Judged → List ℕ
-judged_text text version pitch x y (Refused a) = refused_text a.number a.x a.y 0 []
-judged_text text version pitch x y (Fine job spot) =
+judged_text text version pitch x y (Err a) = refused_text a.number a.x a.y 0 []
+judged_text text version pitch x y (Ok (job, spot)) =
     file_text job.size.width job.size.height job.allowance (raster_from text job.size.width job.size.height spot) version pitch x y
 
 unfoldable pub job_text : List ℕ → ℕ → ℕ → ℤ → ℤ → List ℕ
@@ -52,13 +48,13 @@ unfoldable pub read_text : List ℕ → ℕ → ℕ → ℤ → ℤ → List ℕ
 read_text text version pitch x y = let g = read_gives version pitch x y text (replicate flash_room_size 0) in read_back_text g.outcome g.flashes_after
 
 -- the task `read` reads a file back; any other writes one
-abbrev pub task_text : Next → List ℕ → ℕ → ℕ → ℤ → ℤ → List ℕ
-task_text (Spot next) text version pitch x y = read_text text version pitch x y
-task_text Nothing text version pitch x y = job_text text version pitch x y
+abbrev pub task_text : Option ℕ → List ℕ → ℕ → ℕ → ℤ → ℤ → List ℕ
+task_text (Some next) text version pitch x y = read_text text version pitch x y
+task_text None text version pitch x y = job_text text version pitch x y
 
-abbrev pub asked_text : List ℕ → List ℕ → Numbers → List ℕ
-asked_text task text (Wrong word) = wrong_text word
-asked_text task text (Named version pitch x y) = task_text (word_at task 0 (bytes "read")) text version pitch x y
+abbrev pub asked_text : List ℕ → List ℕ → Result Call WrongWord → List ℕ
+asked_text task text (Err word) = wrong_text (word_number word)
+asked_text task text (Ok call) = task_text (word_at task 0 (bytes "read")) text call.version call.pitch call.x call.y
 
 unfoldable pub program_text : List ℕ → List ℕ → List ℕ → List ℕ → List ℕ → List ℕ → List ℕ
 program_text task version pitch x y text = asked_text task text (asked_by version pitch x y)

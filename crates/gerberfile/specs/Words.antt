@@ -1,48 +1,41 @@
 -- The numbers that a call of the Gerber program names: the version and the pitch, 0 to 2^64 - 1, and the origin, two numbers of -2^63 to 2^63 - 1.
-use Rattle.std.specs.Prelude.{cond, List, ℕ, ◌-◌, ◌^◌, eqb, ℤ, length}
+use Rattle.std.specs.Prelude.{cond, List, ℕ, ◌-◌, ◌^◌, eqb, ℤ, length, Option, Some, None, Result, Ok, Err}
 use Rattle.text.specs.Decimal.{number_at}
 use Rattle.text.specs.Signed.{signed_at}
-use Rattle.text.specs.declared.read.Number.{Number}
-use Rattle.text.specs.declared.read.Number.TheVariants.{Value, Nothing}
-use Rattle.text.specs.declared.signed.Integer.{Integer}
-use Rattle.text.specs.declared.signed.Integer.TheVariants.{Value as Whole, Nothing as NoInteger}
-use Rattle.gerberfile.specs.declared.call.Numbers.{Numbers}
-use Rattle.gerberfile.specs.declared.call.Numbers.TheVariants.{Given, Wrong}
+use Rattle.gerberfile.specs.declared.call.Call.{Call}
+use Rattle.gerberfile.specs.declared.call.WrongWord.{WrongWord}
+use Rattle.gerberfile.specs.declared.call.WrongWord.TheVariants.{Version, Pitch, X, Y}
 
 abbrev pub greatest : ℕ
 greatest = 2 ^ 64 - 1
 
 -- a number is a word from end to end: "decimal, .. no leading zero", with a minus or without a sign
-abbrev pub ended : List ℕ → Number → Number
-ended word (Value n next) = cond (eqb next (length word)) (Value n next) Nothing
-ended word Nothing = Nothing
+abbrev pub ended : {T : Type 0} → List ℕ → Option (T × ℕ) → Option T
+ended word (Some (n, next)) = cond (eqb next (length word)) (Some n) None
+ended word None = None
 
-abbrev pub ended_integer : List ℕ → Integer → Integer
-ended_integer word (Whole z next) = cond (eqb next (length word)) (Whole z next) NoInteger
-ended_integer word NoInteger = NoInteger
-
-unfoldable pub whole_number : List ℕ → Number
+unfoldable pub whole_number : List ℕ → Option ℕ
 whole_number word = ended word (number_at word 0 greatest)
 
-unfoldable pub whole_integer : List ℕ → Integer
-whole_integer word = ended_integer word (signed_at word 0 greatest)
+unfoldable pub whole_integer : List ℕ → Option ℤ
+whole_integer word = ended word (signed_at word 0 greatest)
 
--- the first of the words 2 to 5 that is no number is wrong
-abbrev pub given_y : ℕ → ℕ → ℤ → Integer → Numbers
-given_y v p x (Whole y next) = Given v p x y
-given_y v p x NoInteger = Wrong 5
+-- each word by its place in the call
+abbrev pub word_number : WrongWord → ℕ
+word_number Version = 2
+word_number Pitch = 3
+word_number X = 4
+word_number Y = 5
 
-abbrev pub given_x : ℕ → ℕ → Integer → List ℕ → Numbers
-given_x v p (Whole x next) y_word = given_y v p x (whole_integer y_word)
-given_x v p NoInteger y_word = Wrong 4
+-- the first of the words that is no number is wrong
+abbrev pub given_or : {T : Type 0} → Option T → WrongWord → (T → Result Call WrongWord) → Result Call WrongWord
+given_or (Some n) word later = later n
+given_or None word later = Err word
 
-abbrev pub given_pitch : ℕ → Number → List ℕ → List ℕ → Numbers
-given_pitch v (Value p next) x_word y_word = given_x v p (whole_integer x_word) y_word
-given_pitch v Nothing x_word y_word = Wrong 3
-
-abbrev pub given_version : Number → List ℕ → List ℕ → List ℕ → Numbers
-given_version (Value v next) pitch_word x_word y_word = given_pitch v (whole_number pitch_word) x_word y_word
-given_version Nothing pitch_word x_word y_word = Wrong 2
-
-unfoldable pub asked_by : List ℕ → List ℕ → List ℕ → List ℕ → Numbers
-asked_by version_word pitch_word x_word y_word = given_version (whole_number version_word) pitch_word x_word y_word
+unfoldable pub asked_by : List ℕ → List ℕ → List ℕ → List ℕ → Result Call WrongWord
+asked_by version_word pitch_word x_word y_word =
+    given_or (whole_number version_word) Version
+    (λ v. given_or (whole_number pitch_word) Pitch
+    (λ p. given_or (whole_integer x_word) X
+    (λ x. given_or (whole_integer y_word) Y
+    (λ y. Ok (record { version = v; pitch = p; x = x; y = y })))))

@@ -6,22 +6,27 @@ ghost use Rattle.text.specs.Words.{word_at};
 ghost use Rattle.gerber.specs.File.{bytes};
 ghost use Rattle.gerberfile.specs.Program.{job_text, task_text, program_text};
 
-use crate::call::{Numbers, asked};
-use crate::print::{print_file, print_read, print_refused, print_wrong};
-use grid::answers::DONE;
+use crate::call::{Call, asked};
+use crate::print::{print_file, print_read, print_wrong};
+use grid::answers::{Answer, DONE};
 use grid::limits::RASTER_ROOM;
 use job::read::keekaboor_read_job;
-use text::read::{Next, read_word};
+use printed::outcome::print_refusal;
+use text::read::read_word;
 
-fn print_job(text: &[u8], version: u64, pitch: u64, x: i64, y: i64, out: &mut [u8]) -> usize
+fn print_job(text: &[u8], call: Call, out: &mut [u8]) -> usize
     requires { file_room_size ≤ length out.old }
-    ensures { Written out.old 0 (job_text text.now version pitch x y) result out.new }
+    ensures { Written out.old 0 (job_text text.now call.version call.pitch call.x call.y) result out.new }
 {
     let mut room = [0u8; RASTER_ROOM];
     let read = keekaboor_read_job(text, &mut room);
     if read.answer != DONE {
-        let none = [0u8; 0];
-        return print_refused(read.answer, read.place_x, read.place_y, 0, &none, out);
+        let refusal = Answer {
+            number: read.answer,
+            x: read.place_x,
+            y: read.place_y,
+        };
+        return print_refusal(refusal, out);
     }
     let size = (read.width * read.height) as usize;
     print_file(
@@ -29,30 +34,19 @@ fn print_job(text: &[u8], version: u64, pitch: u64, x: i64, y: i64, out: &mut [u
         read.height,
         read.allowance,
         &room[..size],
-        version,
-        pitch,
-        x,
-        y,
+        call,
         out,
     )
 }
 
 // The task `read` reads a file back.
-fn perform(
-    task: &[u8],
-    text: &[u8],
-    version: u64,
-    pitch: u64,
-    x: i64,
-    y: i64,
-    out: &mut [u8],
-) -> usize
+fn perform(task: &[u8], text: &[u8], call: Call, out: &mut [u8]) -> usize
     requires { file_room_size ≤ length out.old }
-    ensures { Written out.old 0 (task_text (word_at task.now 0 (bytes "read")) text.now version pitch x y) result out.new }
+    ensures { Written out.old 0 (task_text (word_at task.now 0 (bytes "read")) text.now call.version call.pitch call.x call.y) result out.new }
 {
     match read_word(task, 0, b"read") {
-        Next::Spot(_) => print_read(text, version, pitch, x, y, out),
-        Next::Nothing => print_job(text, version, pitch, x, y, out),
+        Some(_) => print_read(text, call, out),
+        None => print_job(text, call, out),
     }
 }
 
@@ -69,9 +63,7 @@ pub fn answer(
     ensures { Written out.old 0 (program_text task.now version.now pitch.now x.now y.now text.now) result out.new }
 {
     match asked(version, pitch, x, y) {
-        Numbers::Wrong(word) => print_wrong(word, out),
-        Numbers::Given(form, nanometres, across, up) => perform(
-            task, text, form, nanometres, across, up, out,
-        ),
+        Ok(call) => perform(task, text, call, out),
+        Err(word) => print_wrong(word.number(), out),
     }
 }

@@ -2,7 +2,7 @@
 // Its words are the task, `write` or `read`, the version, the pitch, and the origin's two numbers.
 #![tactic(auto)]
 
-ghost use Rattle.std.specs.Prelude.{◌≤◌, length};
+ghost use Rattle.std.specs.Prelude.{◌≤◌};
 
 mod answer;
 mod call;
@@ -20,36 +20,42 @@ const WORD_ROOM: usize = 32;
 // The longest job and the longest file that can be as ruled are shorter, so a longer text is refused by what is read of it.
 const READ_ROOM: usize = FILE_ROOM;
 
-// A word of the call, from the room's start; none where it is missing or longer than the room.
-fn word(rt: &impl Env, number: usize, room: &mut [u8]) -> usize
-    ensures { result ≤ length room.new }
-{
-    match rt.arg(number, room) {
-        Ok(length) => length,
-        Err(_) => 0,
+// A word of the call: the front of its room.
+#[derive(Drop)]
+struct Word {
+    room: [u8; WORD_ROOM],
+    length: usize,
+    ghost inside: { length ≤ 32 },
+}
+
+impl Word {
+    // Empty where the word is missing or longer than the room.
+    fn nth(rt: &impl Env, number: usize) -> Word {
+        let mut room = [0u8; WORD_ROOM];
+        let length = rt.arg(number, &mut room).unwrap_or(0);
+        Word { room, length }
+    }
+
+    fn bytes(&self) -> &[u8] {
+        &self.room[..self.length]
     }
 }
 
 fn main(rt: HostRuntime) -> io::Result<()> {
-    let mut task = [0u8; WORD_ROOM];
-    let task_end = word(&rt, 1, &mut task);
-    let mut version = [0u8; WORD_ROOM];
-    let version_end = word(&rt, 2, &mut version);
-    let mut pitch = [0u8; WORD_ROOM];
-    let pitch_end = word(&rt, 3, &mut pitch);
-    let mut x = [0u8; WORD_ROOM];
-    let x_end = word(&rt, 4, &mut x);
-    let mut y = [0u8; WORD_ROOM];
-    let y_end = word(&rt, 5, &mut y);
+    let task = Word::nth(&rt, 1);
+    let version = Word::nth(&rt, 2);
+    let pitch = Word::nth(&rt, 3);
+    let x = Word::nth(&rt, 4);
+    let y = Word::nth(&rt, 5);
     let mut text = [0u8; READ_ROOM];
     let length = read_full(&mut rt.stdin(), &mut text)?;
     let mut out = [0u8; FILE_ROOM];
     let printed = answer(
-        &task[..task_end],
-        &version[..version_end],
-        &pitch[..pitch_end],
-        &x[..x_end],
-        &y[..y_end],
+        task.bytes(),
+        version.bytes(),
+        pitch.bytes(),
+        x.bytes(),
+        y.bytes(),
         &text[..length],
         &mut out,
     );

@@ -1,64 +1,37 @@
 // What a call gave, printed: a file, the flashes of one, a refusal with its marks, or which word is no number.
-ghost use Rattle.std.specs.Prelude.{◌*◌, ◌≤◌, [], ◌∷◌, length};
-ghost use Rattle.grid.specs.Limits.{side, flash_record, mark_record, file_room_size};
+ghost use Rattle.std.specs.Prelude.{◌*◌, ◌≤◌, length};
+ghost use Rattle.grid.specs.Limits.{side, flash_record, file_room_size};
 ghost use Rattle.grid.specs.Rooms.{Written};
-ghost use Rattle.gerberfile.specs.Program.{wrong_text, refused_text, file_text, read_back_text, read_text};
+ghost use Rattle.gerberfile.specs.Program.{wrong_text, file_text, read_back_text, read_text};
 
+use crate::call::Call;
 use cover::entry::Outcome;
 use gerber::read::{ReadOutcome, keekaboor_read_gerber};
 use gerber::write::keekaboor_write_gerber;
-use grid::answers::DONE;
+use grid::answers::{Answer, DONE};
 use grid::limits::{FILE_ROOM, FLASH_RECORD, FLASH_ROOM, MARK_ROOM};
 use grid::rooms::put_bytes;
-use printed::outcome::print_outcome;
+use printed::outcome::{print_outcome, print_refusal};
 use text::line::{put_line, put_record_lines};
 
 pub fn print_wrong(word: u64, out: &mut [u8]) -> usize
     requires { file_room_size ≤ length out.old }
     ensures { Written out.old 0 (wrong_text word) result out.new }
 {
-    let numbers = [word];
-    put_line(out, 0, b"wrong", &numbers)
+    put_line(out, 0, b"wrong", &[word])
 }
 
-// Behind 9 come its marks.
-pub fn print_refused(
-    number: u64,
-    x: u64,
-    y: u64,
-    marks: u64,
-    records: &[u8],
-    out: &mut [u8],
-) -> usize
-    requires { (marks ≤ side) × (marks * mark_record ≤ length records.now) × (file_room_size ≤ length out.old) }
-    ensures { Written out.old 0 (refused_text number x y marks records.now) result out.new }
-{
-    let none = [0u8; 0];
-    let outcome = Outcome {
-        answer: number,
-        place_x: x,
-        place_y: y,
-        flashes: 0,
-        marks,
-        copper: 0,
-        flashed: 0,
-    };
-    print_outcome(outcome, &none, records, out)
-}
-
+// The file; or the refusal, with its marks behind 9.
 pub fn print_file(
     width: u64,
     height: u64,
     allowance: u64,
     raster: &[u8],
-    version: u64,
-    pitch: u64,
-    x: i64,
-    y: i64,
+    call: Call,
     out: &mut [u8],
 ) -> usize
     requires { file_room_size ≤ length out.old }
-    ensures { Written out.old 0 (file_text width height allowance raster.now version pitch x y) result out.new }
+    ensures { Written out.old 0 (file_text width height allowance raster.now call.version call.pitch call.x call.y) result out.new }
 {
     let mut flash_room = [0u8; FLASH_ROOM];
     let mut mark_room = [0u8; MARK_ROOM];
@@ -70,14 +43,23 @@ pub fn print_file(
         raster,
         &mut flash_room,
         &mut mark_room,
-        version,
-        pitch,
-        x,
-        y,
+        call.version,
+        call.pitch,
+        call.x,
+        call.y,
         &mut file_room,
     );
     if o.answer != DONE {
-        return print_refused(o.answer, o.place_x, o.place_y, o.marks, &mark_room, out);
+        let refused = Outcome {
+            answer: o.answer,
+            place_x: o.place_x,
+            place_y: o.place_y,
+            flashes: 0,
+            marks: o.marks,
+            copper: 0,
+            flashed: 0,
+        };
+        return print_outcome(refused, &[], &mark_room, out);
     }
     put_bytes(out, 0, &file_room[..o.length as usize])
 }
@@ -88,17 +70,28 @@ fn print_flashes(o: ReadOutcome, records: &[u8], out: &mut [u8]) -> usize
     ensures { Written out.old 0 (read_back_text o records.now) result out.new }
 {
     if o.answer != DONE {
-        let none = [0u8; 0];
-        return print_refused(o.answer, o.place_x, o.place_y, 0, &none, out);
+        let refusal = Answer {
+            number: o.answer,
+            x: o.place_x,
+            y: o.place_y,
+        };
+        return print_refusal(refusal, out);
     }
     put_record_lines(out, 0, b"flash", records, FLASH_RECORD, o.flashes as usize)
 }
 
-pub fn print_read(text: &[u8], version: u64, pitch: u64, x: i64, y: i64, out: &mut [u8]) -> usize
+pub fn print_read(text: &[u8], call: Call, out: &mut [u8]) -> usize
     requires { file_room_size ≤ length out.old }
-    ensures { Written out.old 0 (read_text text.now version pitch x y) result out.new }
+    ensures { Written out.old 0 (read_text text.now call.version call.pitch call.x call.y) result out.new }
 {
     let mut flash_room = [0u8; FLASH_ROOM];
-    let o = keekaboor_read_gerber(text, version, pitch, x, y, &mut flash_room);
+    let o = keekaboor_read_gerber(
+        text,
+        call.version,
+        call.pitch,
+        call.x,
+        call.y,
+        &mut flash_room,
+    );
     print_flashes(o, &flash_room, out)
 }

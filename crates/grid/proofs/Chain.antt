@@ -10,10 +10,11 @@ use native.Mathlib.Decide.{ℕ_discrete}
 use native.Mathlib.Omega.{arith}
 use borrow.Author.Tests.{eq-eqb, ne_eqb}
 use Rattle.grid.specs.Squares.{Square}
-use Rattle.grid.specs.Answers.{done, check, check_at, or_else, first_refusal}
-use Rattle.grid.specs.Code.{place_of, square_in}
+use Rattle.std.specs.Prelude.{Result, Ok, Err}
+use Rattle.grid.specs.Answers.{answer, done, refused, check, check_at, or_else, first_refusal, answer_of, answered}
 use Rattle.grid.specs.declared.answers.Answer.{Answer}
-use Rattle.grid.specs.declared.raster.Place.{Place}
+use Rattle.grid.specs.declared.answers.Refusal.{Refusal}
+use Rattle.grid.proofs.Refusals.{refuses}
 
 -- a check passes where its answer refuses nothing
 abbrev pub Passes : Answer → Type 0
@@ -33,6 +34,16 @@ module _ (a next : Answer) where
   pub gives_way : Passes a → or_else a next ≡ next
   unfolding or_else
   gives_way e = rw (eq-eqb a.number 0 e)
+
+-- the same of the first check of a list
+module _ (a : Answer) (later : List Answer) where
+  pub passed-first : Passes a → first_refusal (a ∷ later) ≡ first_refusal later
+  unfolding first_refusal
+  passed-first e = gives_way a (first_refusal later) e
+
+  pub refused-first : (Passes a → ⊥) → first_refusal (a ∷ later) ≡ a
+  unfolding first_refusal
+  refused-first n = stands a (first_refusal later) n
 
 -- the two cases of an answer
 pub pcase {ℓ} : {C : Type ℓ} (a : Answer) → (Passes a → C) → ((Passes a → ⊥) → C) → C
@@ -96,51 +107,28 @@ pub check_at-low : (o : Option Square) (n most : ℕ) → n ≤ most → (check_
 check_at-low none n most h = omega arith
 check_at-low (some s) n most h = h
 
--- an answer that refuses nothing has no place either: every check is so
-abbrev pub Plain : Answer → Type 0
-Plain a = Passes a → a ≡ done
+-- behind a `?`: a function that was refused answers for the whole chain, and behind one that passed the rest of the chain answers
+module _ {T : Type 0} {x : Result T Refusal} (cs bs : List Answer) (e : answered x ≡ first_refusal cs) where
+  pub chain-stops : {r : Refusal} → x ≡ Err r → answer_of r ≡ first_refusal (cs ++ bs)
+  chain-stops {r} q =
+      let f : answer_of r ≡ first_refusal cs = sym (ap answered q) ∙ e in
+      sym (chain-append cs bs ∙ ap (λ z. or_else z (first_refusal bs)) (sym f) ∙ stands (answer_of r) (first_refusal bs) (refuses r))
 
-pub check-plain : (b : Bool) (n : ℕ) → Plain (check b (suc n))
-check-plain true n e = refl
-check-plain false n e = absurd (omega arith)
+  pub chain-past : {t : T} → x ≡ Ok t → Each Passes cs
+  chain-past q = chain-passed cs (ap (λ (a : Answer). a.number) (sym e ∙ ap answered q))
 
-pub check_at-plain : (o : Option Square) (n : ℕ) → Plain (check_at o (suc n))
-check_at-plain none n e = refl
-check_at-plain (some s) n e = absurd (omega arith)
+  pub chain-goes-on : {t : T} → x ≡ Ok t → first_refusal (cs ++ bs) ≡ first_refusal bs
+  chain-goes-on q = chain_skip cs bs (chain-past q)
 
--- as the code asks: check after check, each behind what stands already
-abbrev pub in_turn : Answer → List Answer → Answer
-in_turn a [] = a
-in_turn a (b ∷ later) = in_turn (or_else a b) later
+-- of a list whose first check passed, and of one whose first check did not
+pub check-goes-on : (b : Bool) (n : ℕ) (later : List Answer) → b ≡ true → first_refusal (check b n ∷ later) ≡ first_refusal later
+check-goes-on b n later t = ap (λ (v : Bool). first_refusal (check v n ∷ later)) t ∙ passed-first done later refl
 
-turn_last : (a : Answer) (cs : List Answer) (b : Answer) → in_turn a (cs ++ (b ∷ [])) ≡ or_else (in_turn a cs) b
-turn_last a [] b = refl
-turn_last a (c ∷ later) b = turn_last (or_else a c) later b
+pub check-stops : (b : Bool) (n : ℕ) (later : List Answer) → b ≡ false → first_refusal (check b (suc n) ∷ later) ≡ refused (suc n)
+check-stops b n later f = ap (λ (v : Bool). first_refusal (check v (suc n) ∷ later)) f ∙ refused-first (refused (suc n)) later (λ e. omega arith)
 
--- one check more
-pub asked : (cs : List Answer) {r s b c : Answer} → r ≡ in_turn done cs → s ≡ or_else r b → b ≡ c → s ≡ in_turn done (cs ++ (c ∷ []))
-asked cs {c = c} e f g = f ∙ (λ i. or_else (e i) (g i)) ∙ sym (turn_last done cs c)
+pub check_at-goes-on : (o : Option Square) (n : ℕ) (later : List Answer) → o ≡ none → first_refusal (check_at o n ∷ later) ≡ first_refusal later
+check_at-goes-on o n later t = ap (λ (v : Option Square). first_refusal (check_at v n ∷ later)) t ∙ passed-first done later refl
 
-module _ (a : Answer) (n : Passes a → ⊥) where
-  kept : (cs : List Answer) → in_turn a cs ≡ a
-  kept [] = refl
-  kept (b ∷ later) = ap (λ z. in_turn z later) (stands a b n) ∙ kept later
-
-turn-from : (a : Answer) (cs : List Answer) → Plain a → Each Plain cs → in_turn a cs ≡ or_else a (first_refusal cs)
-unfolding first_refusal
-turn-from a [] p all = pcase a (λ e. p e ∙ sym (gives_way a done e)) (λ n. sym (stands a done n))
-turn-from a (b ∷ later) p all =
-    pcase a
-    (λ e. ap (λ z. in_turn z later) (gives_way a b e) ∙ turn-from b later all.0 all.1 ∙ sym (gives_way a _ e))
-    (λ n. ap (λ z. in_turn z later) (stands a b n) ∙ kept a n later ∙ sym (stands a _ n))
-
-pub in_turn_lem : (cs : List Answer) → Each Plain cs → in_turn done cs ≡ first_refusal cs
-in_turn_lem cs all = turn-from done cs (λ e. refl) all ∙ gives_way done _ refl
-
--- what was found, as a check
-pub found-check : (n : ℕ) (o : Option Square) {p : Place} → p ≡ place_of o → check_at (square_in p) n ≡ check_at o n
-found-check n o e = ap (λ (q : Place). check_at (square_in q) n) e ∙ ap (λ (z : Option Square). check_at z n) (there o)
-  where
-    there : (z : Option Square) → square_in (place_of z) ≡ z
-    there none = refl
-    there (some s) = refl
+pub check_at-stops : (o : Option Square) (n : ℕ) (later : List Answer) {s : Square} → o ≡ some s → first_refusal (check_at o (suc n) ∷ later) ≡ answer (suc n) s.column s.row
+check_at-stops o n later {s} f = ap (λ (v : Option Square). first_refusal (check_at v (suc n) ∷ later)) f ∙ refused-first (answer (suc n) s.column s.row) later (λ e. omega arith)

@@ -3,14 +3,12 @@
 use mathlib.Core.Path.{refl, sym, ap, ◌∙◌}
 use mathlib.Core.List.{List}
 use Prim.Native.Nat.{ℕ}
+use Rattle.std.proofs.Common.{Fits, w64}
+use Rattle.std.proofs.lemmas.Result.{IfOk-at_ok}
+use Rattle.grid.proofs.Refusals.{answered-tells}
+use Rattle.grid.proofs.Rasters.{same-raster}
 use Rattle.grid.proofs.Outcome.{Determined}
 use Rattle.grid.proofs.Edges.{of_left, of_right}
-use Rattle.grid.proofs.answers.Answer.done
-use Rattle.grid.proofs.answers.Answer.refused
-use Rattle.grid.proofs.answers.Answer.at
-use Rattle.grid.proofs.answers.Answer.or
-use Rattle.grid.proofs.answers.Answer.unless
-use Rattle.grid.proofs.answers.Answer.found
 use Rattle.grid.proofs.lines.Column.left_line
 use Rattle.grid.proofs.lines.Column.right_line
 use Rattle.grid.proofs.lines.Line.column_after
@@ -23,28 +21,15 @@ use Rattle.grid.proofs.lines.Interval.holds
 use Rattle.grid.proofs.lines.Interval.columns
 use Rattle.grid.proofs.raster.size_fits
 use Rattle.grid.proofs.raster.length_fits
-use Rattle.grid.proofs.raster.bad_byte
-use Rattle.grid.proofs.raster.is_copper
-use Rattle.grid.proofs.raster.broken
+use Rattle.grid.proofs.raster.Raster.bad_byte
+use Rattle.grid.proofs.raster.Raster.is_copper
+use Rattle.grid.proofs.raster.Raster.broken
+use Rattle.grid.proofs.raster.Raster.checked
 use Rattle.grid.proofs.rooms.put_bytes
-
-pub done-determined : Determined done.Kinds.ps done.Kinds.r done.Reads.Pre done.Reads.Post
-done-determined κs a pre x y v w p q = (p ∙ sym q, refl)
-
-pub refused-determined : Determined refused.Kinds.ps refused.Kinds.r refused.Reads.Pre refused.Reads.Post
-refused-determined κs a pre x y v w p q = (p ∙ sym q, refl)
-
-pub at-determined : Determined at.Kinds.ps at.Kinds.r at.Reads.Pre at.Reads.Post
-at-determined κs a pre x y v w p q = (p ∙ sym q, refl)
-
-pub or-determined : Determined or.Kinds.ps or.Kinds.r or.Reads.Pre or.Reads.Post
-or-determined κs a pre x y v w p q = (p ∙ sym q, refl)
-
-pub unless_determined : Determined unless.Kinds.ps unless.Kinds.r unless.Reads.Pre unless.Reads.Post
-unless_determined κs a pre x y v w p q = (p ∙ sym q, refl)
-
-pub found-determined : Determined found.Kinds.ps found.Kinds.r found.Reads.Pre found.Reads.Post
-found-determined κs a pre x y v w p q = (p ∙ sym q, refl)
+use Rattle.grid.proofs.rooms.put_record
+use Rattle.grid.proofs.answers.Refusal.answer
+use Rattle.grid.proofs.answers.check
+use Rattle.grid.proofs.answers.AnswerFromRefusal.from
 
 pub left-line-determined : Determined left_line.Kinds.ps left_line.Kinds.r left_line.Reads.Pre left_line.Reads.Post
 left-line-determined κs a pre x y v w p q = (p ∙ sym q, refl)
@@ -93,3 +78,27 @@ broken_determined κs a pre x y v w p q = (p ∙ sym q, refl)
 
 pub put_bytes-determined : Determined put_bytes.Kinds.ps put_bytes.Kinds.r put_bytes.Reads.Pre put_bytes.Reads.Post
 put_bytes-determined κs a pre x y v w p q = (p.past ∙ sym q.past, ap (λ (l : List ℕ). (l, v.1)) (p.left ∙ sym q.left))
+
+pub put_record-determined : (n : ℕ) (f : Fits w64 n) → Determined (put_record.Kinds.ps n f) (put_record.Kinds.r n f) (put_record.Reads.Pre n f) (put_record.Reads.Post n f)
+put_record-determined n f κs a pre x y v w p q = let r = p ∙ sym q in (refl, λ i. (r i, (tt, (tt, tt))))
+
+pub answer-determined : Determined answer.Kinds.ps answer.Kinds.r answer.Reads.Pre answer.Reads.Post
+answer-determined κs a pre x y v w p q = (p ∙ sym q, refl)
+
+pub check-determined : Determined check.Kinds.ps check.Kinds.r check.Reads.Pre check.Reads.Post
+check-determined κs a pre x y v w p q = (p ∙ sym q, refl)
+
+pub from-determined : Determined from.Kinds.ps from.Kinds.r from.Reads.Pre from.Reads.Post
+from-determined κs a pre x y v w p q = (p ∙ sym q, refl)
+
+pub checked-determined : Determined checked.Kinds.ps checked.Kinds.r checked.Reads.Pre checked.Reads.Post
+checked-determined κs a pre x y v w p q = (
+  answered-tells x y (p.0 ∙ sym q.0)
+      (λ r s e f.
+      let g = IfOk-at_ok _ e p.1 in
+      let h = IfOk-at_ok _ f q.1 in
+      let w = g.0 ∙ sym h.0 in
+      let l = g.1 ∙ sym h.1 in
+      same-raster r s (λ i. record { width = w i; height = l i }) (g.2 ∙ sym h.2)),
+  refl,
+)

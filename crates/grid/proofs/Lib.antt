@@ -1,6 +1,7 @@
 pub mod Edges
-pub mod Index
 pub mod Writing
+pub mod Refusals
+pub mod Rasters
 pub mod Chain
 pub mod Next
 pub mod Gaps
@@ -10,6 +11,7 @@ pub mod Leftmost
 pub mod Broken
 pub mod Pigeonhole
 pub mod Run
+pub mod Scan
 pub mod Independence
 pub mod Tried
 pub mod Outcome

@@ -89,7 +89,8 @@ written-set room spot b h = set_split room spot b h ∙ ap (λ (n : ℕ). take s
 pub written_next : (room : List ℕ) (spot b : ℕ) (bs : List ℕ) → spot + suc (length bs) ≤ length room → written room spot (b ∷ bs) ≡ written (set room spot b) (spot + 1) bs
 written_next room spot b bs h = sym (ap (λ (l : List ℕ). written l (spot + 1) bs) (written-set room spot b (omega arith)) ∙ written_then room spot (b ∷ []) bs (omega arith))
 
-pub written_last : (room : List ℕ) (spot b : ℕ) (bs : List ℕ) → spot + suc (length bs) ≤ length room → written room spot (bs ++ (b ∷ [])) ≡ written (set room (spot + length bs) b) spot bs
+pub written_last : (room : List ℕ) (spot b : ℕ) (bs : List ℕ) → spot + suc (length bs) ≤ length room
+    → written room spot (bs ++ (b ∷ [])) ≡ written (set room (spot + length bs) b) spot bs
 written_last room spot b bs h = sym (ap (λ (l : List ℕ). written l spot bs) (written-set room (spot + length bs) b (omega arith)) ∙ written-first room spot bs (b ∷ []) (omega arith))
 
 -- two writings, one behind the other, are a writing of both

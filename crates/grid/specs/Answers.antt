@@ -1,8 +1,11 @@
 -- Document 01's 'Answers by number': a number with its place, and the order where several apply.
-use Rattle.std.specs.Prelude.{Bool, cond, List, [], ◌∷◌, ℕ, eqb}
+use Rattle.std.specs.Prelude.{Bool, cond, List, [], ◌∷◌, ℕ, eqb, Result, Ok, Err}
 use Rattle.std.proofs.Math.Option.{Option, none, some}
 use Rattle.grid.specs.Squares.{Square}
 use Rattle.grid.specs.declared.answers.Answer.{Answer}
+use Rattle.grid.specs.declared.answers.Refusal.{Refusal}
+use Rattle.grid.specs.declared.answers.Refusal.TheVariants.{SizeOut, RasterLength, FlashRoomShort, MarkRoomShort, TextRoomShort, AllowanceOut, BadByte, BrokenColumn}
+use Rattle.grid.specs.declared.answers.Refusal.TheVariants.{AllowanceShort, TextLong, BadLine, RasterRoomShort, PitchOut, CentreOut, FileRoomShort, BadListLine, ListLong, VersionUnknown, BadFileLine}
 
 abbrev pub answer : ℕ → ℕ → ℕ → Answer
 answer n x y = record { number = n; x = x; y = y }
@@ -91,3 +94,30 @@ version_unknown = 21
 -- document 02, R-2: reading back
 abbrev pub bad_file_line : ℕ
 bad_file_line = 30
+
+-- a refusal of the code as an answer: its number, and the square's column and row, or the line, or no place
+abbrev pub answer_of : Refusal → Answer
+answer_of SizeOut = refused size_out
+answer_of RasterLength = refused raster_length
+answer_of FlashRoomShort = refused flash_room_short
+answer_of MarkRoomShort = refused mark_room_short
+answer_of TextRoomShort = refused text_room_short
+answer_of AllowanceOut = refused allowance_out
+answer_of (BadByte c r) = answer bad_byte c.0 r.0
+answer_of (BrokenColumn c r) = answer broken_column c.0 r.0
+answer_of AllowanceShort = refused allowance_short
+answer_of TextLong = refused text_long
+answer_of (BadLine n) = answer bad_line n 0
+answer_of RasterRoomShort = refused raster_room_short
+answer_of PitchOut = refused pitch_out
+answer_of CentreOut = refused centre_out
+answer_of FileRoomShort = refused file_room_short
+answer_of (BadListLine n) = answer bad_list_line n 0
+answer_of ListLong = refused list_long
+answer_of VersionUnknown = refused version_unknown
+answer_of (BadFileLine n) = answer bad_file_line n 0
+
+-- what a function answers that is refused by a `?`, or done
+abbrev pub answered : {T : Type 0} → Result T Refusal → Answer
+answered (Ok _) = done
+answered (Err r) = answer_of r

@@ -1,13 +1,11 @@
 -- Columns, rows and grid lines as the code holds them, read as document 01's numbers; an interval of the code read as one of the rules.
 -- Each definition is total: where right ≤ left there is no interval, so it has length 0, holds nothing and meets nothing.
-use Rattle.std.specs.Prelude.{Bool, cond, ◌&&◌, ℕ, ◌+◌, ◌-◌}
+use Rattle.std.specs.Prelude.{Bool, cond, ◌&&◌, ℕ, ◌+◌, ◌-◌, Option, Some, None}
 use Rattle.method.specs.Intervals.{Interval as Span, span, proper, holds, inside, meet}
 use Rattle.grid.specs.declared.lines.Column.{Column}
 use Rattle.grid.specs.declared.lines.Row.{Row}
 use Rattle.grid.specs.declared.lines.Line.{Line}
 use Rattle.grid.specs.declared.lines.Interval.{Interval}
-use Rattle.grid.specs.declared.lines.Columns.{Columns}
-use Rattle.grid.specs.declared.lines.Columns.TheVariants.{None, Run}
 
 abbrev pub column : ℕ → Column
 column n = record { 0 = n }
@@ -54,5 +52,5 @@ abbrev pub holds_of : Interval → Column → Bool
 holds_of i c = holds c.0 (span_of i)
 
 -- "holds columns L to R - 1": the first and the last, where there is one
-abbrev pub columns_of : Interval → Columns
-columns_of i = cond (proper (span_of i)) (Run (column i.left.0) (column (i.right.0 - 1))) None
+abbrev pub columns_of : Interval → Option (Column × Column)
+columns_of i = cond (proper (span_of i)) (Some (column i.left.0, column (i.right.0 - 1))) None

@@ -1,11 +1,11 @@
-// Document 01's answers, a number and its place, and the chain of checks: an answer, or else what the next check says.
-ghost use Rattle.std.specs.Prelude.{◌≡◌};
-ghost use Rattle.grid.specs.Answers.{answer, done, refused, check, check_at, or_else};
-ghost use Rattle.grid.specs.Code.{square_in};
+// Document 01's answers: a refusal has its number and its place, and a check is a `?`.
+ghost use Rattle.std.specs.Prelude.{◌≡◌, cond, Ok, Err};
+ghost use Rattle.grid.specs.Answers.{answer_of};
 
-use crate::raster::Place;
+use crate::lines::{Column, Row};
 
-#[derive(Clone, Copy)]
+// An answer by number with its place, as C's structs carry it; 0 is done.
+#[derive(Clone, Copy, Debug, PartialEq, Eq)]
 pub struct Answer {
     pub number: u64,
     pub x: u64,
@@ -14,93 +14,78 @@ pub struct Answer {
 
 pub const DONE: u64 = 0;
 
-pub const SIZE_OUT: u64 = 1;
-
-pub const RASTER_LENGTH: u64 = 2;
-
-pub const FLASH_ROOM_SHORT: u64 = 3;
-
-pub const MARK_ROOM_SHORT: u64 = 4;
-
-pub const TEXT_ROOM_SHORT: u64 = 5;
-
-pub const ALLOWANCE_OUT: u64 = 6;
-
-pub const BAD_BYTE: u64 = 7;
-
-pub const BROKEN_COLUMN: u64 = 8;
-
 pub const ALLOWANCE_SHORT: u64 = 9;
 
-pub const TEXT_LONG: u64 = 10;
+// Why a call is refused, and where, if a place is named: a square, or a line of a text.
+#[derive(Clone, Copy, Debug, PartialEq, Eq)]
+pub enum Refusal {
+    SizeOut,
+    RasterLength,
+    FlashRoomShort,
+    MarkRoomShort,
+    TextRoomShort,
+    AllowanceOut,
+    BadByte(Column, Row),
+    BrokenColumn(Column, Row),
+    AllowanceShort,
+    TextLong,
+    BadLine(usize),
+    RasterRoomShort,
+    PitchOut,
+    CentreOut,
+    FileRoomShort,
+    BadListLine(usize),
+    ListLong,
+    VersionUnknown,
+    BadFileLine(usize),
+}
 
-pub const BAD_LINE: u64 = 11;
-
-pub const RASTER_ROOM_SHORT: u64 = 12;
-
-pub const PITCH_OUT: u64 = 13;
-
-pub const CENTRE_OUT: u64 = 14;
-
-pub const FILE_ROOM_SHORT: u64 = 15;
-
-pub const BAD_LIST_LINE: u64 = 16;
-
-pub const LIST_LONG: u64 = 17;
-
-pub const VERSION_UNKNOWN: u64 = 21;
-
-pub const BAD_FILE_LINE: u64 = 30;
-
-impl Answer {
-    pub fn done() -> Answer
-        ensures { result ≡ done }
+impl Refusal {
+    pub fn answer(self) -> Answer
+        ensures { result ≡ answer_of self }
     {
+        let (number, x, y) = match self {
+            Refusal::SizeOut => (1, 0, 0),
+            Refusal::RasterLength => (2, 0, 0),
+            Refusal::FlashRoomShort => (3, 0, 0),
+            Refusal::MarkRoomShort => (4, 0, 0),
+            Refusal::TextRoomShort => (5, 0, 0),
+            Refusal::AllowanceOut => (6, 0, 0),
+            Refusal::BadByte(c, r) => (7, c.0, r.0),
+            Refusal::BrokenColumn(c, r) => (8, c.0, r.0),
+            Refusal::AllowanceShort => (ALLOWANCE_SHORT, 0, 0),
+            Refusal::TextLong => (10, 0, 0),
+            Refusal::BadLine(line) => (11, line, 0),
+            Refusal::RasterRoomShort => (12, 0, 0),
+            Refusal::PitchOut => (13, 0, 0),
+            Refusal::CentreOut => (14, 0, 0),
+            Refusal::FileRoomShort => (15, 0, 0),
+            Refusal::BadListLine(line) => (16, line, 0),
+            Refusal::ListLong => (17, 0, 0),
+            Refusal::VersionUnknown => (21, 0, 0),
+            Refusal::BadFileLine(line) => (30, line, 0),
+        };
         Answer {
-            number: DONE,
-            x: 0,
-            y: 0,
+            number,
+            x: x as u64,
+            y: y as u64,
         }
     }
+}
 
-    // A refusal for which no place is named.
-    pub fn refused(number: u64) -> Answer
-        ensures { result ≡ refused number }
-    {
-        Answer { number, x: 0, y: 0 }
-    }
+impl From<Refusal> for Answer {
+    ghost from_gives = { λ r a. a ≡ answer_of r };
 
-    pub fn at(number: u64, x: u64, y: u64) -> Answer
-        ensures { result ≡ answer number x y }
+    fn from(refusal: Refusal) -> Answer
+        ensures { result ≡ answer_of refusal }
     {
-        Answer { number, x, y }
+        refusal.answer()
     }
+}
 
-    // The refusal that stands already, or else the next answer.
-    pub fn or(self, next: Answer) -> Answer
-        ensures { result ≡ or_else self next }
-    {
-        if self.number == DONE { next } else { self }
-    }
-
-    // Or else a refusal with the number, unless the check passed.
-    pub fn unless(self, passed: bool, number: u64) -> Answer
-        ensures { result ≡ or_else self (check passed number) }
-    {
-        if passed {
-            self.or(Answer::done())
-        } else {
-            self.or(Answer::refused(number))
-        }
-    }
-
-    // Or else a refusal with the number, at the place that was found.
-    pub fn found(self, place: Place, number: u64) -> Answer
-        ensures { result ≡ or_else self (check_at (square_in place) number) }
-    {
-        match place {
-            Place::Nowhere => self.or(Answer::done()),
-            Place::At(c, r) => self.or(Answer::at(number, c.0 as u64, r.0 as u64)),
-        }
-    }
+// A check for a `?`: passed, or the refusal.
+pub fn check(passed: bool, refusal: Refusal) -> Result<(), Refusal>
+    ensures { result ≡ cond passed (Ok tt) (Err refusal) }
+{
+    if passed { Ok(()) } else { Err(refusal) }
 }

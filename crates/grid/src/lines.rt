@@ -1,36 +1,29 @@
 // A column, a row and a grid line are three counts that are never taken for one another; an interval lies between two lines.
-ghost use Rattle.std.specs.Prelude.{◌≡◌, ◌+◌, ◌^◌, ◌<◌, ◌≤◌, min, max};
+ghost use Rattle.std.specs.Prelude.{◌≡◌, ◌+◌, ◌^◌, ◌<◌, ◌≤◌};
 ghost use Rattle.grid.specs.Lines.{left_line, right_line, whole_to, length_of, meet_of, contains_of, holds_of, columns_of};
 
 use crate::limits::SIDE;
 
-#[derive(Clone, Copy)]
+#[derive(Clone, Copy, Debug, PartialEq, Eq, PartialOrd, Ord)]
 pub struct Column(pub usize);
 
-#[derive(Clone, Copy)]
+#[derive(Clone, Copy, Debug, PartialEq, Eq, PartialOrd, Ord)]
 pub struct Row(pub usize);
 
-#[derive(Clone, Copy)]
+#[derive(Clone, Copy, Debug, PartialEq, Eq, PartialOrd, Ord)]
 pub struct Line(pub usize);
 
-#[derive(Clone, Copy)]
+#[derive(Clone, Copy, Debug, PartialEq, Eq)]
 pub struct Interval {
     pub left: Line,
     pub right: Line,
 }
 
 // A square that is evidence.
-#[derive(Clone, Copy)]
+#[derive(Clone, Copy, Debug, PartialEq, Eq)]
 pub struct Mark {
     pub column: Column,
     pub row: Row,
-}
-
-// The columns of an interval: the first and the last.
-#[derive(Clone, Copy)]
-pub enum Columns {
-    None,
-    Run(Column, Column),
 }
 
 impl Column {
@@ -78,25 +71,24 @@ impl Interval {
     pub fn up_to(last: Line) -> Interval
         ensures { result ≡ whole_to last }
     {
-        let whole = Interval::WHOLE;
-        let left = whole.left;
-        Interval { left, right: last }
+        Interval {
+            right: last,
+            ..Interval::WHOLE
+        }
     }
 
     pub fn length(self) -> usize
         ensures { result ≡ length_of self }
     {
-        let l = self.left.0;
-        let r = self.right.0;
-        if l < r { r - l } else { 0 }
+        self.right.0.saturating_sub(self.left.0)
     }
 
     pub fn meet(self, other: Interval) -> Interval
         ensures { result ≡ meet_of self other }
     {
         Interval {
-            left: Line(greater(self.left.0, other.left.0)),
-            right: Line(lesser(self.right.0, other.right.0)),
+            left: self.left.max(other.left),
+            right: self.right.min(other.right),
         }
     }
 
@@ -104,7 +96,7 @@ impl Interval {
     pub fn contains(self, other: Interval) -> bool
         ensures { result ≡ contains_of self other }
     {
-        other.left.0 < other.right.0 && self.left.0 <= other.left.0 && other.right.0 <= self.right.0
+        other.left < other.right && self.left <= other.left && other.right <= self.right
     }
 
     // The column's left line lies from this one's left line on and before its right line.
@@ -112,30 +104,17 @@ impl Interval {
         ensures { result ≡ holds_of self column }
     {
         let line = column.left_line();
-        self.left.0 <= line.0 && line.0 < self.right.0
+        self.left <= line && line < self.right
     }
 
-    pub fn columns(self) -> Columns
+    // The first column and the last, where there is one.
+    pub fn columns(self) -> Option<(Column, Column)>
         ensures { result ≡ columns_of self }
     {
-        let l = self.left;
-        let r = self.right;
-        if l.0 < r.0 {
-            Columns::Run(l.column_after(), r.column_before())
+        if self.left < self.right {
+            Some((self.left.column_after(), self.right.column_before()))
         } else {
-            Columns::None
+            None
         }
     }
-}
-
-fn greater(a: usize, b: usize) -> usize
-    ensures { result ≡ max a b }
-{
-    if a < b { b } else { a }
-}
-
-fn lesser(a: usize, b: usize) -> usize
-    ensures { result ≡ min a b }
-{
-    if a < b { a } else { b }
 }

@@ -5,7 +5,9 @@ use mathlib.Core.List.{List}
 use mathlib.Core.Logic.{by_cases}
 use Prim.Native.Nat.{ℕ, ◌+◌, ◌-◌, ◌≤◌, ◌<◌}
 use native.Mathlib.Omega.{arith}
-use native.Mathlib.Numerals.{add-one}
+use Rattle.std.specs.Prelude.{Option, Some, None, MatchOption}
+use Rattle.grid.specs.Lines.{line}
+use Rattle.grid.specs.declared.lines.Line.{Line}
 use native.Mathlib.Decide.{dec_lt}
 use lib.Dec.{eqb}
 use borrow.Author.Tests.{eq-eqb, eqb-true}
@@ -13,7 +15,7 @@ use Rattle.lists.specs.Lists.{first, from}
 use Rattle.lists.proofs.Truth.{bcase, ocase, never, fails}
 use Rattle.lists.proofs.Members.{any_of, none_any}
 use Rattle.lists.proofs.Ranges.{first-from}
-use Rattle.lists.proofs.Searches.{first-here, first_on, first-end, first-missed}
+use Rattle.lists.proofs.Searches.{first-least, first-nowhere, first-missed}
 use Rattle.method.specs.Intervals.{Interval as Span, span, member}
 use Rattle.method.specs.Runs.{Listed}
 use Rattle.method.proofs.Listed.{listed-lines, member_in, in_member}
@@ -24,19 +26,13 @@ use Rattle.words.proofs.Words.{on-zero, word_bits}
 use Rattle.intervals.specs.Table.{row_of, begun_at, begun_from, NoneBegins}
 use Rattle.intervals.proofs.TableLaws.{row-end}
 
--- one step of `begun_from`
-module _ (n : ℕ) (s : List Span) (p : ℕ) where
-  pub begun-here : p < n → begun_at s p ≡ true → begun_from n s p ≡ p
-  unfolding begun_from
-  begun-here h t = ap (or_end n) (first-here (begun_at s) p n h t)
-
-  pub begun-next : p < n → begun_at s p ≡ false → begun_from n s p ≡ begun_from n s (p + 1)
-  unfolding begun_from
-  begun-next h f = rw (add-one p) (ap (or_end n) (first_on (begun_at s) p n h f))
-
-  pub begun-over : n ≤ p → begun_from n s p ≡ n
-  unfolding begun_from
-  begun-over h = ap (or_end n) (first-end (begun_at s) p n h)
+-- what `find` and `map_or` tell of the first line at which an interval begins
+pub begun-found : (s : List Span) (p n : ℕ) (r : Option ℕ) (out : Line)
+    → MatchOption r ((k : ℕ) → p ≤ k → k < n → begun_at s k ≡ false) (λ i. (p ≤ i) × (i < n) × (begun_at s i ≡ true) × ((k : ℕ) → p ≤ k → k < i → begun_at s k ≡ false))
+    → MatchOption r (out ≡ line n) (λ i. out ≡ line i) → out ≡ line (begun_from n s p)
+unfolding begun_from
+begun-found s p n None out d m = m ∙ ap (λ o. line (or_end n o)) (sym (first-nowhere (begun_at s) p (n - p) (λ y l u. d y l (omega arith))))
+begun-found s p n (Some i) out d m = m ∙ ap (λ o. line (or_end n o)) (sym (first-least (begun_at s) p (n - p) i d.0 (omega (arith, d.0, d.1)) d.2 d.3))
 
 -- an interval of the set begins at its left line
 begun-member : (s : List Span) (i : Span) → member i s ≡ true → begun_at s i.left ≡ true

@@ -25,7 +25,7 @@ use Rattle.method.proofs.Listed.{in_member, listed-lines, member-select, select-
 use Rattle.intervals.specs.Table.{next_end, NoneBegins, cut_at}
 use Rattle.intervals.specs.Tops.{ends_beyond}
 use Rattle.intervals.specs.Counts.{begun_before}
-use Rattle.intervals.proofs.TableRows.{next-found, next-before, and_true}
+use Rattle.intervals.proofs.TableRows.{next-found, next-before, next-nowhere, and_true}
 use Rattle.intervals.proofs.RowCounts.{before, before-all, before-next}
 
 module _ (n c : ℕ) where
@@ -102,8 +102,8 @@ module _ (n : ℕ) (s : List Span) (c : ℕ) where
   least_start listed p since = least-all listed ∙ least_skip p since
 
   module _ (l : ℕ) (h : l < begun_before n c) where
-    pub least-here : 0 < next_end n s l c → least_from l ≡ some (span l (next_end n s l c))
-    least-here k =
+    pub least-here : (x : ℕ) → next_end n s l c ≡ some x → least_from l ≡ some (span l x)
+    least-here x k =
         let b = begun_lines n c l h in
         let f = next-found n s l c k in
         let e : n - l ≡ suc (n - suc l) = omega arith in
@@ -111,13 +111,12 @@ module _ (n : ℕ) (s : List Span) (c : ℕ) where
         (first-append-some test (beginning_at n l) (gather (beginning_at n) (from (suc l) (n - suc l)))
         (row_first l
         ∙ ap (map (λ r. span l r))
-        (first-least (λ r. test (span l r)) (suc l) (n - l) (next_end n s l c) (omega arith) (omega arith)
-        (and_both (member (span l (next_end n s l c)) s) (holds c (span l (next_end n s l c))) f.2 (lines_hold c (span l (next_end n s l c)) b.0 f.0))
-        (λ r u v. row-off l r (λ w. next-before n s l c r w (omega arith) (λ z. v))))))
+        (first-least (λ r. test (span l r)) (suc l) (n - l) x (omega arith) (omega arith)
+        (and_both (member (span l x) s) (holds c (span l x)) f.2 (lines_hold c (span l x) b.0 f.0))
+        (λ r u v. row-off l r (λ w. next-before n s l c k r w v)))))
 
-    pub least_on : next_end n s l c ≤ 0 → least_from l ≡ least_from (l + 1)
-    least_on k =
-        rw (add-one l) (least-next l (λ r u v. row-off l r (λ w. next-before n s l c r w v (λ z. omega arith))))
+    pub least_on : next_end n s l c ≡ none → least_from l ≡ least_from (l + 1)
+    least_on k = rw (add-one l) (least-next l (λ r u v. row-off l r (λ w. next-nowhere n s l c k r w v)))
 
   pub least-over : (l : ℕ) → begun_before n c ≤ l → least_from l ≡ none
   least-over p h =

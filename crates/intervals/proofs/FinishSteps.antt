@@ -1,22 +1,19 @@
 -- On the way to a final set, whichever search finds the brackets: what is asked of the table left equals what was asked of the first one.
 -- Each turn reduces rule 5's bracket and notes it; both final sets go by these steps.
 use mathlib.Core.Path.{◌≡◌, refl, sym, ap, ◌∙◌, subst}
-use mathlib.Core.Bool.{Bool, true, false}
 use mathlib.Core.List.{List, [], ◌∷◌}
 use mathlib.Core.Option.{Option, none, some}
-use Prim.Native.Nat.{ℕ, ◌+◌, ◌*◌, ◌≤◌, ◌<◌}
+use Prim.Native.Nat.{ℕ, ◌+◌, ◌*◌, ◌^◌, ◌≤◌, ◌<◌}
 use native.Mathlib.Omega.{arith}
 use lib.ListN.{length}
 use Rattle.lists.specs.Lists.{gather}
-use Rattle.lists.proofs.Truth.{ocase, never}
 use Rattle.lists.proofs.Blocks.{blocks_length}
 use Rattle.method.specs.Intervals.{Interval as Span}
 use Rattle.method.specs.Reduce.{reduce}
-use Rattle.method.specs.Final.{leftmost, reduced, final, traced, trace}
+use Rattle.method.specs.Final.{leftmost, final, trace}
 use Rattle.method.proofs.Facts.{reduce-listed, reduce_size}
 use Rattle.method.proofs.Minimal.{minimal-dependent, dependent-proper}
 use Rattle.method.proofs.Search.{leftmost-minimal}
-use Rattle.method.proofs.AnyOrder.{reduced-step, reduced-done, traced-step, traced-done}
 use Rattle.method.proofs.Final.{final-done, final-step}
 use Rattle.method.proofs.Trace.{trace-done, trace-step, trace-length}
 use Rattle.grid.specs.Limits.{side, bracket_record}
@@ -24,25 +21,26 @@ use Rattle.grid.specs.Lines.{span_of, interval_of}
 use Rattle.grid.specs.Rooms.{written}
 use Rattle.grid.proofs.Writing.{written_none, written_then, length-written}
 use Rattle.grid.specs.declared.lines.Interval.{Interval}
-use Rattle.intervals.specs.declared.Found.{Found}
-use Rattle.intervals.specs.declared.Found.TheVariants.{Nothing, At}
+use Rattle.std.specs.Prelude.{Option as Found, None, Some}
 use Rattle.intervals.specs.Table.{set_of, table_of, Tabled, found_of}
-use Rattle.intervals.specs.Finished.{bracket_bytes, Roomy, is_found, NextReduced, Finished}
+use Rattle.intervals.specs.Spans.{spans}
+use Rattle.intervals.specs.declared.Table.{Table}
+use Rattle.intervals.specs.Finished.{bracket_bytes, Roomy, Finished}
 use Rattle.intervals.proofs.TableLaws.{set-listed, left_as}
 
 -- what was found, read back
-found_nothing : (o : Option Span) → found_of o ≡ Nothing → o ≡ none
+found_nothing : (o : Option Span) → found_of o ≡ None → o ≡ none
 found_nothing none e = refl
 found_nothing (some i) e = cc
 
-found_at : (o : Option Span) (d : Interval) → found_of o ≡ At d → o ≡ some (span_of d)
+found_at : (o : Option Span) (d : Interval) → found_of o ≡ Some d → o ≡ some (span_of d)
 found_at none d e = cc
 found_at (some i) d e = let q : interval_of i ≡ d = cc in ap some (ap span_of q)
 
-pub none_found : (o : Option Span) (r : Found) → r ≡ found_of o → r ≡ Nothing → o ≡ none
+pub none_found : (o : Option Span) (r : Found Interval) → r ≡ found_of o → r ≡ None → o ≡ none
 none_found o r e f = found_nothing o (sym e ∙ f)
 
-pub some-found : (o : Option Span) (r : Found) (d : Interval) → r ≡ found_of o → r ≡ At d → o ≡ some (span_of d)
+pub some-found : (o : Option Span) (r : Found Interval) (d : Interval) → r ≡ found_of o → r ≡ Some d → o ≡ some (span_of d)
 some-found o r d e f = found_at o d (sym e ∙ f)
 
 -- the brackets' records, one behind the other
@@ -51,12 +49,6 @@ noted ds = gather bracket_bytes ds
 
 noted-length : (ds : List Span) → length (noted ds) ≡ length ds * bracket_record
 noted-length ds = blocks_length bracket_bytes bracket_record (λ d. refl) ds
-
--- a room with a record for each interval of the set holds the trace, so what it holds afterwards is as long
-pub finished-long : {n : ℕ} {w a t b : List ℕ} {k : ℕ} → Roomy n w a → Finished n w a k t b → length b ≡ length a
-finished-long {n} {w} {a} R F =
-    ap length F.noted
-    ∙ length-written a 0 (noted (trace n (set_of n w))) (omega (arith, R, noted-length (trace n (set_of n w)), trace-length n (set_of n w) (set-listed n w)))
 
 -- the bracket that was found: its lines are bytes, and there is room for its record
 module _ {n : ℕ} {t : List ℕ} (T : Tabled n t) {d : Span} (found : leftmost n (set_of n t) ≡ some d) where
@@ -80,11 +72,11 @@ pub record OnWay (n : ℕ) (w a t b : List ℕ) (k : ℕ) : Type 0 where
   pub long : length b ≡ length a
   pub roomy : k * bracket_record + length (set_of n t) * bracket_record ≤ length b
 
-pub way_start : {n : ℕ} {t room : List ℕ} → Tabled n t → Roomy n t room → OnWay n t room t room 0
+pub way_start : {n : ℕ} {t room : List ℕ} → Tabled n t → Roomy (set_of n t) room → OnWay n t room t room 0
 way_start T R = record { table = T; set = refl; counted = omega arith; noted = refl; long = refl; roomy = omega (arith, R) }
 
 module _ {n : ℕ} {w a t b : List ℕ} {k : ℕ} (W : OnWay n w a t b k) where
-  pub way_done : leftmost n (set_of n t) ≡ none → Finished n w a k t b
+  pub way_done : leftmost n (set_of n t) ≡ none → Finished n (set_of n w) a k t b
   way_done e =
       let s = set_of n t in
       let over : trace n s ≡ [] = trace-done n s e in
@@ -125,47 +117,32 @@ module _ {n : ℕ} {w a t b : List ℕ} {k : ℕ} (W : OnWay n w a t b k) where
             roomy = omega (arith, ap length f, length-written b (k * bracket_record) (bracket_bytes d) (found-room W.table found k b W.roomy), way_less, W.roomy);
           }
 
--- a turn, by what the search found
-one-reduced : (n : ℕ) (s : List Span) {d : Span} → leftmost n s ≡ some d → reduced n 1 s ≡ reduce n s d
-unfolding reduced
-one-reduced n s e = reduced-step n 0 s e
+-- a turn, by what the search found in a table with the same last line
+module _ {n : ℕ} {w a b : List ℕ} {k : ℕ} (t : Table) (p : t.last.0 ≡ n) (W : OnWay n w a t.rows b k) (r : Found Interval)
+    (e : r ≡ found_of (leftmost t.last.0 (spans t))) where
+  searched : r ≡ found_of (leftmost n (set_of n t.rows))
+  searched = subst (λ m. r ≡ found_of (leftmost m (set_of m t.rows))) p e
 
-one-traced : (n : ℕ) (s : List Span) {d : Span} → leftmost n s ≡ some d → traced n 1 s ≡ d ∷ []
-unfolding traced
-one-traced n s e = traced-step n 0 s e
+  pub turn-over : r ≡ None → Finished n (set_of n w) a k t.rows b
+  turn-over f = way_done W (none_found (leftmost n (set_of n t.rows)) r searched f)
 
-module _ (n : ℕ) (t room : List ℕ) (k : ℕ) where
-  pub turn-none : Tabled n t → leftmost n (set_of n t) ≡ none → NextReduced n (set_of n t) room k false t room
-  turn-none T e =
-      record {
-        told = sym (ap is_found e);
-        set = T.whole ∙ ap table_of (sym (reduced-done n 1 (set_of n t) e));
-        noted = sym (ap (λ ds. written room (k * bracket_record) (noted ds)) (traced-done n 1 (set_of n t) e) ∙ written_none room (k * bracket_record));
-      }
+  module _ (d : Interval) (f : r ≡ Some d) where
+    pub turn-found : leftmost n (set_of n t.rows) ≡ some (span_of d)
+    turn-found = some-found (leftmost n (set_of n t.rows)) r d searched f
 
-  pub turn-some : {d : Span} → leftmost n (set_of n t) ≡ some d → (t2 b2 : List ℕ) → t2 ≡ table_of (reduce n (set_of n t) d)
-      → b2 ≡ written room (k * bracket_record) (bracket_bytes d) → NextReduced n (set_of n t) room k true t2 b2
-  turn-some {d} e t2 b2 p q =
-      record {
-        told = sym (ap is_found e);
-        set = p ∙ ap table_of (sym (one-reduced n (set_of n t) e));
-        noted = q ∙ ap (λ ds. written room (k * bracket_record) (noted ds)) (sym (one-traced n (set_of n t) e));
-      }
+    -- its record has a place, and its lines are bytes
+    pub turn-fits : (d.left.0 < 2 ^ 8) × (d.right.0 < 2 ^ 8) × (k * bracket_record + bracket_record ≤ length b)
+    turn-fits = let l = found-lines W.table turn-found in
+        (omega (arith, l), omega (arith, l), found-room W.table turn-found k b W.roomy)
 
-module _ {n : ℕ} {w a t b : List ℕ} {k : ℕ} (W : OnWay n w a t b k) {r : Bool} {t2 b2 : List ℕ} (T : NextReduced n (set_of n t) b k r t2 b2) where
-  pub turn-over : r ≡ false → Finished n w a k t2 b2
-  turn-over f =
-      ocase (leftmost n (set_of n t))
-      (λ e.
-      let B = turn-none n t b k W.table e in
-      subst (λ (z : List ℕ). Finished n w a k z b2) (B.set ∙ sym T.set) (subst (Finished n w a k t) (B.noted ∙ sym T.noted) (way_done W e)))
-      (λ d e. absurd (never (ap is_found e) (sym T.told ∙ f)))
+    -- the table and the room that it leaves
+    module _ (t2 : Table) (b2 : List ℕ) (g : t2.rows ≡ table_of (reduce t.last.0 (spans t) (span_of d)))
+        (h : b2 ≡ written b (k * bracket_record) (bracket_bytes (span_of d))) where
+      pub turn-rows : t2.rows ≡ table_of (reduce n (set_of n t.rows) (span_of d))
+      turn-rows = subst (λ m. t2.rows ≡ table_of (reduce m (set_of m t.rows) (span_of d))) p g
 
-  pub turn-next : r ≡ true → OnWay n w a t2 b2 (k + 1) × (length (set_of n t2) < length (set_of n t)) × (k * bracket_record + bracket_record ≤ length b)
-  turn-next f =
-      ocase (leftmost n (set_of n t))
-      (λ e. absurd (never (sym T.told ∙ f) (ap is_found e)))
-      (λ d e.
-      let p : t2 ≡ table_of (reduce n (set_of n t) d) = T.set ∙ ap table_of (one-reduced n (set_of n t) e) in
-      let q : b2 ≡ written b (k * bracket_record) (bracket_bytes d) = T.noted ∙ ap (λ ds. written b (k * bracket_record) (noted ds)) (one-traced n (set_of n t) e) in
-      (way_next W e t2 b2 p q, way_less W e t2 b2 p q, found-room W.table e k b W.roomy))
+      pub turn-less : length (set_of n t2.rows) < length (set_of n t.rows)
+      turn-less = way_less W turn-found t2.rows b2 turn-rows h
+
+      pub turn-next : OnWay n w a t2.rows b2 (k + 1)
+      turn-next = way_next W turn-found t2.rows b2 turn-rows h

@@ -1,3 +1,4 @@
+pub mod Comparisons
 pub mod TableLaws
 pub mod TableRows
 pub mod ReduceRows
@@ -12,5 +13,6 @@ pub mod SweepSearch
 pub mod DoubledLines
 pub mod SetSizes
 pub mod FinishSteps
+pub mod SameTables
 pub mod SameBrackets
 pub mod Determined

@@ -1,6 +1,6 @@
 -- Rule 4 row by row on a table's set: before line l the rows are reduced, from l on they are as they were.
 -- What `furthest` finds is the staircase's next step; at a jump one interval of the row is dropped and the meet is put.
-use mathlib.Core.Path.{◌≡◌, refl, sym, ap, ◌∙◌, fun_ext}
+use mathlib.Core.Path.{◌≡◌, refl, sym, ap, ap₂, ◌∙◌, fun_ext}
 use mathlib.Core.Bool.{true, false}
 use mathlib.Core.List.{List}
 use mathlib.Core.Logic.{by_cases, ite, if_pos, if_neg}
@@ -21,6 +21,8 @@ use Rattle.method.proofs.Star.{Jump, Place, drop, add, keep, place, red-same, re
 use Rattle.method.proofs.RuleFour.{rule_four}
 use Rattle.method.proofs.Listed.{select-listed, listed-lines, listed_equal}
 use Rattle.grid.specs.Limits.{side}
+use Rattle.grid.specs.Lines.{line, whole_to, meet_of}
+use Rattle.grid.specs.declared.lines.Interval.{Interval}
 use Rattle.words.specs.Words.{on, past_of}
 use Rattle.intervals.specs.Table.{row_of, changed}
 use Rattle.intervals.specs.Reach.{reach}
@@ -94,6 +96,20 @@ module _ {n : ℕ} {s : List Span} (fits : n ≤ side) (listed : Listed n s) (l 
 
   pub reach-none : e ≤ p → p ≡ reach s l p to
   reach-none h = sym (whole ∙ reach-low s l p e h)
+
+  pub reach-max : max p e ≡ reach s l p to
+  reach-max = by_cases (dec_lt p e) (λ h. omega (arith, reach-found h)) (λ h. omega (arith, reach-none (omega arith)))
+
+-- the lines asked are those of the bracket up to the last line
+pub asked-end : (n : ℕ) (d u m : Interval) → u ≡ whole_to (line n) → m ≡ meet_of u d → m.right.0 ≡ min n d.right.0
+asked-end n d u m p q = ap (λ (i : Interval). i.right.0) q ∙ ap (λ (i : Interval). min i.right.0 d.right.0) p
+
+-- what the row's word has up to the last line is the reach
+pub row-reach : {n : ℕ} {s : List Span} → n ≤ side → Listed n s → (l p to : ℕ) {w k : ℕ} → w ≡ row_of s l → k ≡ min n to
+    → max p (past_of (first (on w) (down k))) ≡ reach s l p to
+row-reach {n} {s} fits listed l p to r e =
+    ap₂ (λ w k. max p (past_of (first (on w) (down k)))) r e
+    ∙ reach-max fits listed l p to (past_of (first (on (row_of s l)) (down (min n to)))) refl
 
 -- the set's rows before line l as rule 4 leaves them, the others as they are
 abbrev upto : Set → ℕ → ℕ → ℕ → Set

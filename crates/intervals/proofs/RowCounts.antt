@@ -4,6 +4,7 @@ use mathlib.Core.Bool.{Bool, true, false, ◌&&◌}
 use mathlib.Core.List.Memᴰ
 use mathlib.Core.List.{List, [], ◌∷◌}
 use mathlib.Core.Logic.{by_cases}
+use mathlib.Core.Option.{Option, none, some}
 use Prim.Native.Nat.{ℕ, zero, suc, ◌+◌, ◌≤◌, ◌<◌}
 use native.Mathlib.Omega.{arith}
 use native.Mathlib.Numerals.{add-one}
@@ -25,14 +26,10 @@ use Rattle.intervals.specs.Tops.{ends_beyond}
 use Rattle.intervals.proofs.TableRows.{next_here, next-on, next-over, and_false}
 use Rattle.intervals.proofs.TopLines.{one_place, ends-box}
 
--- the ends that are left when the next one, or 0 for none, is line e
-abbrev pub ends_from : ℕ → List Span → ℕ → ℕ → ℕ
-ends_from n s l zero = 0
-ends_from n s l (suc e) = suc (ends_beyond s l n (suc e))
-
-pub ends-here : (n : ℕ) (s : List Span) (l e : ℕ) → 0 < e → ends_from n s l e ≡ suc (ends_beyond s l n e)
-ends-here n s l zero h = absurd (omega arith)
-ends-here n s l (suc e) h = refl
+-- the ends that are left, by the next one
+abbrev ends_from : ℕ → List Span → ℕ → Option ℕ → ℕ
+ends_from n s l none = 0
+ends_from n s l (some e) = suc (ends_beyond s l n e)
 
 module _ (n : ℕ) {s : List Span} (listed : Listed n s) (l : ℕ) where
   -- one line further
@@ -57,19 +54,18 @@ module _ (n : ℕ) {s : List Span} (listed : Listed n s) (l : ℕ) where
       (λ u.
       bcase (has s l (suc p))
       (λ t.
-      let e = next_here n s l p u (rw (add-one p) t) ∙ add-one p in
+      let e = next_here n s l p u (rw (add-one p) t) ∙ ap some (add-one p) in
       rw e (omega (arith, ends-step p u, ap bit t)))
       (λ f.
       let e = next-on n s l p u (rw (add-one p) f) ∙ ap (next_end n s l) (add-one p) in
       rw e (omega (arith, ends-step p u, ap bit f, ends-left k (suc p) (omega arith)))))
       (λ u. ends-none p (omega arith))
 
-  pub ends_next : (p : ℕ) → ends_beyond s l n p ≡ ends_from n s l (next_end n s l p)
-  ends_next p = ends-left n p (omega arith)
+  pub ends_one : (p e : ℕ) → next_end n s l p ≡ some e → ends_beyond s l n p ≡ suc (ends_beyond s l n e)
+  ends_one p e q = ends-left n p (omega arith) ∙ ap (ends_from n s l) q
 
-  -- of those left, one goes as the next one comes
-  pub ends-one : (e : ℕ) → 0 < e → ends_from n s l e ≡ suc (ends_from n s l (next_end n s l e))
-  ends-one e h = ends-here n s l e h ∙ ap suc (ends_next e)
+  pub ends_over : (p : ℕ) → next_end n s l p ≡ none → ends_beyond s l n p ≡ 0
+  ends_over p q = ends-left n p (omega arith) ∙ ap (ends_from n s l) q
 
 pub ends_bound : (s : List Span) (l n p : ℕ) → ends_beyond s l n p ≤ length s
 unfolding ends_beyond

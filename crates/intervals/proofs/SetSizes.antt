@@ -46,5 +46,5 @@ set_bound n t h =
     )
 
 -- a room of that length, cleared
-pub room-holds : (n : ℕ) (t : List ℕ) (m : ℕ) → m ≡ bracket_room → n ≤ side → Roomy n t (replicate m 0)
+pub room-holds : (n : ℕ) (t : List ℕ) (m : ℕ) → m ≡ bracket_room → n ≤ side → Roomy (set_of n t) (replicate m 0)
 room-holds n t m e h = omega (arith, length-replicate {A = ℕ} m 0, set_bound n t h)

@@ -80,6 +80,10 @@ module _ (n : ℕ) (s : List Span) (fits : n ≤ side) (listed : Listed n s) whe
   pub left_as : {t : List ℕ} → t ≡ table_of s → Tabled n t × (set_of n t ≡ s)
   left_as e = (subst⁻¹ (Tabled n) e tabled, ap (set_of n) e ∙ set-table)
 
+  -- the same by a last line that is this one
+  pub left_to : {t : List ℕ} {m : ℕ} → m ≡ n → t ≡ table_of s → set_of m t ≡ s
+  left_to p e = (λ i. set_of (p i) (e i)) ∙ set-table
+
 module _ {n : ℕ} {t : List ℕ} (T : Tabled n t) where
   pub tabled-length : length t ≡ side
   tabled-length = ap length T.whole ∙ table-length (set_of n t)

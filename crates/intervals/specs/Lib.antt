@@ -1,4 +1,5 @@
 pub mod Table
+pub mod Spans
 pub mod Search
 pub mod Finished
 pub mod Counts

@@ -1,13 +1,12 @@
 -- Serves the engine alone: what its sweep over left lines keeps, and what it finds.
 use Rattle.std.specs.Prelude.{◌≡◌, true, false, List, ℕ, ◌+◌, ◌-◌, ◌≤◌, ◌<◌}
+use Rattle.std.specs.Prelude.{Option as Found, None, Some}
 use Rattle.std.proofs.Math.Option.{Option, map}
 use Rattle.lists.specs.Lists.{first, down}
 use Rattle.method.specs.Intervals.{Interval as Span, span}
 use Rattle.method.specs.Dependent.{covered_inside, dependent}
 use Rattle.words.specs.Words.{on}
 use Rattle.intervals.specs.declared.sweep.Held.{Held}
-use Rattle.intervals.specs.declared.sweep.Step.{Step}
-use Rattle.intervals.specs.declared.sweep.Step.TheVariants.{Dependent as Hit, On}
 
 -- p is the least line from which every column up to line b is held at least k times by intervals of s inside (l, b):
 -- the column before line p is not
@@ -22,9 +21,9 @@ pub record Swept (s : List Span) (l b : ℕ) (h : Held) : Type 0 where
   pub once : LeastHeld s 1 l b h.once.0
 
 -- what a step to line l tells: the bracket (l, b) is dependent, or it is not and the sweep goes on
-abbrev pub Told : List Span → ℕ → ℕ → Step → Type 0
-Told s l b Hit = dependent s (span l b) ≡ true
-Told s l b (On h) = (dependent s (span l b) ≡ false) × Swept s l b h
+abbrev pub Told : List Span → ℕ → ℕ → Found Held → Type 0
+Told s l b None = dependent s (span l b) ≡ true
+Told s l b (Some h) = (dependent s (span l b) ≡ false) × Swept s l b h
 
 -- the shortest dependent bracket that ends at line b: the one with the greatest left line
 unfoldable pub shortest : List Span → ℕ → Option Span

@@ -1,14 +1,15 @@
 -- The interval table read as a set of the method: a word for each left line, whose bit r - 1 is on where the interval from that line to line r is in the set.
 use Rattle.std.specs.Prelude.{◌≡◌, Bool, true, false, not, cond, ◌&&◌, List, map, ℕ, ◌+◌, ◌-◌, ◌≤◌, leb, eqb, ltb, get_or}
+use Rattle.std.specs.Prelude.{Option as Found, None, Some}
 use Rattle.std.proofs.Math.Option.{Option, none, some}
 use Rattle.lists.specs.Lists.{any, count, first, from, up_to}
 use Rattle.method.specs.Intervals.{Interval as Span, span, same, select, member}
 use Rattle.grid.specs.Limits.{side}
-use Rattle.grid.specs.Lines.{interval_of}
+use Rattle.grid.specs.Lines.{line, interval_of}
+use Rattle.grid.specs.declared.lines.Interval.{Interval}
+use Rattle.grid.specs.declared.lines.Line.{Line}
 use Rattle.grid.specs.Code.{or_end}
 use Rattle.words.specs.Words.{on, word_of}
-use Rattle.intervals.specs.declared.Found.{Found}
-use Rattle.intervals.specs.declared.Found.TheVariants.{Nothing, At}
 
 -- the set that a table holds, over the lines 0 to n
 unfoldable pub set_of : ℕ → List ℕ → List Span
@@ -37,9 +38,9 @@ with n i s = changed n i true s
 abbrev pub without : ℕ → Span → List Span → List Span
 without n i s = changed n i false s
 
--- the least line beyond p and up to n at which an interval of s from line l ends; 0 where none does
-unfoldable pub next_end : ℕ → List Span → ℕ → ℕ → ℕ
-next_end n s l p = or_end 0 (first (λ r. member (span l r) s) (from (p + 1) (n - p)))
+-- the least line beyond p and up to n at which an interval of s from line l ends
+unfoldable pub next_end : ℕ → List Span → ℕ → ℕ → Option ℕ
+next_end n s l p = first (λ r. member (span l r) s) (from (p + 1) (n - p))
 
 -- an interval of s begins at line l
 unfoldable pub begun_at : List Span → ℕ → Bool
@@ -62,6 +63,10 @@ unfoldable pub cut_at : ℕ → ℕ → ℕ → List Span → List Span
 cut_at n l e s = select n (λ j. member j s && not (eqb j.left l && ltb e j.right))
 
 -- what was found, as the code has it
-abbrev pub found_of : Option Span → Found
-found_of none = Nothing
-found_of (some i) = At (interval_of i)
+abbrev pub found_of : Option Span → Found Interval
+found_of none = None
+found_of (some i) = Some (interval_of i)
+
+abbrev pub line_found : Option ℕ → Found Line
+line_found none = None
+line_found (some r) = Some (line r)

@@ -2,7 +2,7 @@
 ghost use Rattle.std.specs.Prelude.{◌≡◌};
 ghost use Rattle.method.specs.Dependent.{dependent};
 ghost use Rattle.grid.specs.Lines.{span_of};
-ghost use Rattle.intervals.specs.Table.{set_of, Tabled};
+ghost use Rattle.intervals.specs.Spans.{spans};
 ghost use Rattle.intervals.specs.Tops.{WithRow};
 
 use crate::Table;
@@ -17,13 +17,12 @@ pub struct Tops {
 }
 
 // Takes in the intervals from line `left` that end at line `right` or before, looking down to the lesser line only.
-fn with_row(t: &Table, last: Line, left: Line, right: Line, tops: Tops) -> Tops
-    requires { Tabled last.0 t.now }
-    ensures { WithRow (set_of last.0 t.now) left.0 right.0 tops result }
+fn with_row(t: &Table, left: Line, right: Line, tops: Tops) -> Tops
+    ensures { WithRow (spans t.now) left.0 right.0 tops result }
 {
     let greater = tops.greater;
-    let one = furthest(t, last, left, tops.lesser, right);
-    if one.0 <= greater.0 {
+    let one = furthest(t, left, tops.lesser, right);
+    if one <= greater {
         return Tops {
             greater,
             lesser: one,
@@ -31,30 +30,24 @@ fn with_row(t: &Table, last: Line, left: Line, right: Line, tops: Tops) -> Tops
     }
     Tops {
         greater: one,
-        lesser: furthest(t, last, left, greater, Line(one.0 - 1)),
+        lesser: furthest(t, left, greater, Line(one.0 - 1)),
     }
 }
 
-pub fn dependent(t: &Table, last: Line, d: Interval) -> bool
-    requires { Tabled last.0 t.now }
-    ensures { result ≡ dependent (set_of last.0 t.now) (span_of d) }
+pub fn dependent(t: &Table, d: Interval) -> bool
+    ensures { result ≡ dependent (spans t.now) (span_of d) }
 {
-    let left = d.left;
-    let right = d.right;
-    if right.0 <= left.0 {
-        return false;
-    }
-    if last.0 < right.0 {
+    if !t.within(d) {
         return false;
     }
     let mut tops = Tops {
-        greater: left,
-        lesser: left,
+        greater: d.left,
+        lesser: d.left,
     };
-    for l in left.0..right.0 {
-        tops = with_row(t, last, Line(l), right, tops);
+    for l in d.left.0..d.right.0 {
+        tops = with_row(t, Line(l), d.right, tops);
         // The column after line l: no later row holds it.
-        if tops.lesser.0 <= l {
+        if tops.lesser <= Line(l) {
             return false;
         }
     }

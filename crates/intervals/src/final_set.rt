@@ -4,79 +4,73 @@ ghost use Rattle.method.specs.Final.{final};
 ghost use Rattle.grid.specs.Limits.{bracket_record};
 ghost use Rattle.grid.specs.Lines.{span_of};
 ghost use Rattle.grid.specs.Rooms.{written};
-ghost use Rattle.intervals.specs.Table.{set_of, table_of, Tabled};
-ghost use Rattle.intervals.specs.Finished.{bracket_bytes, Roomy, NextReduced, Finished};
+ghost use Rattle.intervals.specs.Table.{table_of};
+ghost use Rattle.intervals.specs.Spans.{spans};
+ghost use Rattle.intervals.specs.Finished.{bracket_bytes, Roomy, Finished};
 
+use crate::Table;
 use crate::bracket::bracket;
 use crate::reduce::reduce;
 use crate::sweep::final_set_swept;
-use crate::table::copy;
-use crate::{Found, Table};
 use grid::limits::{BRACKET_RECORD, BRACKET_ROOM};
-use grid::lines::{Interval, Line};
-use grid::rooms::put_bytes;
+use grid::lines::Interval;
 
-// The n-th record of the room.
+// The n-th record of the room. Byte by byte, and not as a slice that is copied: so a room that nobody reads takes no stack.
 pub fn note_bracket(room: &mut [u8], n: usize, d: Interval)
     requires { (d.left.0 < 2 ^ 8) × (d.right.0 < 2 ^ 8) × (n * bracket_record + bracket_record ≤ length room.old) }
     ensures { room.new ≡ written room.old (n * bracket_record) (bracket_bytes (span_of d)) }
 {
-    let record = [d.left.0 as u8, d.right.0 as u8];
-    put_bytes(room, n * BRACKET_RECORD, &record);
-}
-
-// Reduces rule 5's bracket and notes it behind the n noted, and tells whether there was one.
-fn reduce_next(t: &mut Table, last: Line, room: &mut [u8], n: usize) -> bool
-    requires tabled { Tabled last.0 t.old }
-    requires bracket_record_in_bounds { n * bracket_record + length (set_of last.0 t.old) * bracket_record ≤ length room.old }
-    ensures { NextReduced last.0 (set_of last.0 t.old) room.old n result t.new room.new }
-{
-    let Found::At(d) = bracket(t, last) else {
-        return false;
-    };
-    note_bracket(room, n, d);
-    reduce(t, last, d);
-    true
+    let spot = n * BRACKET_RECORD;
+    room[spot] = d.left.0 as u8;
+    room[spot + 1] = d.right.0 as u8;
 }
 
 // By the plain search, anew for each reduction. Answers how many there were.
-pub fn final_set(t: &mut Table, last: Line, room: &mut [u8]) -> usize
-    requires tabled { Tabled last.0 t.old }
-    requires roomy { Roomy last.0 t.old room.old }
-    ensures { Finished last.0 t.old room.old result t.new room.new }
+pub fn final_set(t: &mut Table, room: &mut [u8]) -> usize
+    requires roomy { Roomy (spans t.old) room.old }
+    ensures finished { Finished t.old.last.0 (spans t.old) room.old result t.new.rows room.new }
+    ensures last { t.new.last ≡ t.old.last }
 {
     let mut reductions: usize = 0;
-    while reduce_next(t, last, room, reductions) {
+    while let Some(d) = bracket(t) {
+        note_bracket(room, reductions, d);
+        reduce(t, d);
         reductions += 1;
     }
     reductions
 }
 
-// The two bracket searches.
-#[derive(Clone, Copy)]
-pub enum Search {
-    Plain,
-    Swept,
+// A bracket search, by the final set that it leads to: nothing tells which it was.
+pub trait Search {
+    fn finish(t: &mut Table, room: &mut [u8]) -> usize
+        requires roomy { Roomy (spans t.old) room.old }
+        ensures finished { Finished t.old.last.0 (spans t.old) room.old result t.new.rows room.new }
+        ensures last { t.new.last ≡ t.old.last };
 }
 
-// By the search that the caller chooses: nothing tells which it was.
-pub fn finish(t: &mut Table, last: Line, room: &mut [u8], search: Search) -> usize
-    requires tabled { Tabled last.0 t.old }
-    requires roomy { Roomy last.0 t.old room.old }
-    ensures { Finished last.0 t.old room.old result t.new room.new }
-{
-    match search {
-        Search::Plain => final_set(t, last, room),
-        Search::Swept => final_set_swept(t, last, room),
+pub struct Plain;
+
+pub struct Swept;
+
+impl Search for Plain {
+    fn finish(t: &mut Table, room: &mut [u8]) -> usize {
+        final_set(t, room)
     }
 }
 
-// The set's final set into the other table; nobody asks for the brackets.
-pub fn final_copy(set: &Table, work: &mut Table, last: Line, search: Search)
-    requires { Tabled last.0 set.now }
-    ensures { work.new ≡ table_of (final last.0 (set_of last.0 set.now)) }
+impl Search for Swept {
+    fn finish(t: &mut Table, room: &mut [u8]) -> usize {
+        final_set_swept(t, room)
+    }
+}
+
+// The set's final set as a table of its own; nobody asks for the brackets.
+pub fn final_copy<S: Search>(set: &Table) -> Table
+    ensures rows { result.rows ≡ table_of (final set.now.last.0 (spans set.now)) }
+    ensures last { result.last ≡ set.now.last }
 {
     let mut room = [0u8; BRACKET_ROOM];
-    copy(set, work);
-    finish(work, last, &mut room, search);
+    let mut work = *set;
+    S::finish(&mut work, &mut room);
+    work
 }

@@ -3,14 +3,15 @@
 // A dependent bracket's last column is held twice, so the engine goes only to lines at which two intervals of the first set end.
 ghost use Rattle.std.specs.Prelude.{◌≡◌, ◌+◌, ◌<◌};
 ghost use Rattle.method.specs.Final.{leftmost};
-ghost use Rattle.intervals.specs.Table.{set_of, Tabled, found_of};
+ghost use Rattle.intervals.specs.Table.{found_of};
+ghost use Rattle.intervals.specs.Spans.{spans};
 ghost use Rattle.intervals.specs.Search.{NoneBefore};
 ghost use Rattle.intervals.specs.Finished.{Roomy, Finished};
 ghost use Rattle.intervals.specs.Sweep.{Swept, Told, EndsAmong};
 
+use crate::Table;
 use crate::final_set::note_bracket;
 use crate::reduce::{furthest, reduce};
-use crate::{Found, Table, table};
 use grid::lines::{Interval, Line};
 
 // The least lines from which every column up to the right line is held twice, and once, by the intervals seen so far.
@@ -20,45 +21,36 @@ pub struct Held {
     pub once: Line,
 }
 
-#[derive(Clone, Copy)]
-pub enum Step {
-    Dependent,
-    On(Held),
-}
-
-// The intervals from line `left` that end at line `right` or before come in.
-fn stepped(t: &Table, last: Line, left: Line, right: Line, held: Held) -> Step
-    requires tabled { Tabled last.0 t.now }
+// The intervals from line `left` that end at line `right` or before come in; nothing is held on where the bracket is dependent.
+fn stepped(t: &Table, left: Line, right: Line, held: Held) -> Option<Held>
     requires left_lt_right { left.0 < right.0 }
-    requires swept { Swept (set_of last.0 t.now) (left.0 + 1) right.0 held }
-    ensures { Told (set_of last.0 t.now) left.0 right.0 result }
+    requires swept { Swept (spans t.now) (left.0 + 1) right.0 held }
+    ensures { Told (spans t.now) left.0 right.0 result }
 {
-    let twice = held.twice;
-    let once = held.once;
-    let greater = furthest(t, last, left, Line(0), right);
+    let Held { twice, once } = held;
+    let greater = furthest(t, left, Line(0), right);
     // The quick way out first: a row that reaches neither line changes nothing.
-    if greater.0 < once.0 {
-        return Step::On(held);
+    if greater < once {
+        return Some(held);
     }
-    if greater.0 < twice.0 {
-        return Step::On(Held { twice, once: left });
+    if greater < twice {
+        return Some(Held { twice, once: left });
     }
-    let lesser = furthest(t, last, left, Line(0), Line(greater.0 - 1));
-    if once.0 <= lesser.0 {
-        return Step::Dependent;
+    let lesser = furthest(t, left, Line(0), Line(greater.0 - 1));
+    if once <= lesser {
+        return None;
     }
-    Step::On(Held {
+    Some(Held {
         twice: once,
         once: left,
     })
 }
 
 // Rule 5's bracket, where none ends before line `from`, nor at a line whose bit is off.
-fn bracket_from(t: &Table, last: Line, from: Line, doubled: u64) -> Found
-    requires tabled { Tabled last.0 t.now }
-    requires none_before { NoneBefore (set_of last.0 t.now) from.0 }
-    requires ends_among { EndsAmong doubled (set_of last.0 t.now) }
-    ensures { result ≡ found_of (leftmost last.0 (set_of last.0 t.now)) }
+fn bracket_from(t: &Table, from: Line, doubled: u64) -> Option<Interval>
+    requires none_before { NoneBefore (spans t.now) from.0 }
+    requires ends_among { EndsAmong doubled (spans t.now) }
+    ensures { result ≡ found_of (leftmost t.now.last.0 (spans t.now)) }
 {
     let mut right = from.0;
     'search: loop {
@@ -66,11 +58,9 @@ fn bracket_from(t: &Table, last: Line, from: Line, doubled: u64) -> Found
             twice: Line(right),
             once: Line(right),
         };
-        let mut l = right;
-        while 0 < l {
-            l -= 1;
-            let Step::On(next) = stepped(t, last, Line(l), Line(right), held) else {
-                break 'search Found::At(Interval {
+        for l in (0..right).rev() {
+            let Some(next) = stepped(t, Line(l), Line(right), held) else {
+                break 'search Some(Interval {
                     left: Line(l),
                     right: Line(right),
                 });
@@ -79,32 +69,29 @@ fn bracket_from(t: &Table, last: Line, from: Line, doubled: u64) -> Found
         }
         // The bits from `right` on are the lines beyond it; where none is on, the answer lies past the last line.
         let bit = words::next_on(doubled, right);
-        if last.0 <= bit {
-            break 'search Found::Nothing;
+        if t.last.0 <= bit {
+            break 'search None;
         }
         right = bit + 1;
     }
 }
 
 // Answers how many reductions there were; each bracket is noted in the room, in order.
-pub fn final_set_swept(t: &mut Table, last: Line, room: &mut [u8]) -> usize
-    requires tabled { Tabled last.0 t.old }
-    requires roomy { Roomy last.0 t.old room.old }
-    ensures { Finished last.0 t.old room.old result t.new room.new }
+pub fn final_set_swept(t: &mut Table, room: &mut [u8]) -> usize
+    requires roomy { Roomy (spans t.old) room.old }
+    ensures finished { Finished t.old.last.0 (spans t.old) room.old result t.new.rows room.new }
+    ensures last { t.new.last ≡ t.old.last }
 {
     // Of the first set: a reduction makes no new dependence.
-    let doubled = table::doubled(t, last);
+    let doubled = t.doubled();
     let mut right = Line(0);
     let mut reductions: usize = 0;
-    loop {
-        let Found::At(d) = bracket_from(t, last, right, doubled) else {
-            return reductions;
-        };
-        let end = d.right;
+    while let Some(d) = bracket_from(t, right, doubled) {
         note_bracket(room, reductions, d);
-        reduce(t, last, d);
+        reduce(t, d);
         // The same line again: another bracket may end there.
-        right = end;
+        right = d.right;
         reductions += 1;
     }
+    reductions
 }

@@ -1,6 +1,7 @@
 -- A text is accepted exactly where it is the text of a job, and then it is read as that job.
 -- Both ways row by row: the text from a row's spot on is the lines of the rows from there down, and the raster so far is the rows below.
 -- The round trips are this, said of the exported functions.
+use Rattle.std.proofs.Common.{Ok, Option}
 use mathlib.Core.Path.{◌≡◌, refl, sym, ap, ◌∙◌}
 use mathlib.Core.Bool.{true}
 use mathlib.Core.List.{List, [], ◌++◌, append_assoc, append-nil}
@@ -13,13 +14,10 @@ use lib.Seq.{drop-drop, drop-append_seam, drop_at, take_at, take-add, take_all}
 use borrow.Author.Tests.{eqb-true}
 use Rattle.grid.specs.Limits.{raster_room}
 use Rattle.grid.specs.declared.raster.Job.{Job}
-use Rattle.text.specs.declared.read.Next.{Next}
 use Rattle.text.proofs.Passes.{passes-inside}
 use Rattle.text.proofs.Lengths.{within-take, within-drop, within_both}
 use Rattle.job.specs.JobText.{shape_line, row_head, row_line, row_of, row_lines, job_text, IsJob}
 use Rattle.job.specs.Reading.{squares_at, then_rows, rows_from, raster_from, judged}
-use Rattle.job.specs.declared.lines.Lines.TheVariants.{Ruled}
-use Rattle.job.specs.declared.read.Judged.TheVariants.{Fine}
 use Rattle.job.proofs.Lengths.{length-row, length-row_of, longest}
 use Rattle.job.proofs.Shape.{within-three, whole_shaped, shaped_whole}
 use Rattle.job.proofs.Row.{squares?, are_squares, Rowed, rowed_whole, squares-found}
@@ -59,13 +57,13 @@ module _ (t : List ℕ) (w h : ℕ) (raster : List ℕ) (full : length raster �
         ap (squares_at t (s + length (row_head r))) (sym row-stands.wide)
         ∙ squares-found t s r (row_of w raster r) row-stands.line row-stands.bytes
 
-  pub rows_accepted : (r n s : ℕ) → r ≤ h → s ≤ length t → drop s t ≡ row_lines w raster r → rows_from t w r n s ≡ Ruled
+  pub rows_accepted : (r n s : ℕ) → r ≤ h → s ≤ length t → drop s t ≡ row_lines w raster r → rows_from t w r n s ≡ Ok tt
   rows_accepted zero n s l i e =
       let z : length (drop s t) ≡ 0 = ap length (e ∙ lines_none w raster) in
       rows-ended t w n s 0 (le_refl 0) (omega (arith, length-drop s t))
   rows_accepted (suc r) n s l i e =
       rows_next t w n s r
-      ∙ ap (λ (x : Next). then_rows x n (λ next. rows_from t w r (n + 1) next)) (rowed_whole t s w r (row_of w raster r) (row-stands r s l e))
+      ∙ ap (λ (x : Option ℕ). then_rows x n (λ next. rows_from t w r (n + 1) next)) (rowed_whole t s w r (row_of w raster r) (row-stands r s l e))
       ∙ rows_accepted r (n + 1) (s + length (line r)) (omega arith) (stands-inside r s l e) (rest r s l e)
 
   pub raster-read : (r s : ℕ) → r ≤ h → drop s t ≡ row_lines w raster r → raster_from t w r s ≡ take (r * w) raster
@@ -80,7 +78,7 @@ module _ (t : List ℕ) (w h : ℕ) (raster : List ℕ) (full : length raster �
       ∙ ap (λ (k : ℕ). take k raster) (sym (suc-mul r w))
 
 -- rows that are accepted are the lines of the raster that is read, with whatever rows above it
-pub rows-text : (t : List ℕ) (w r n s : ℕ) (above : List ℕ) → rows_from t w r n s ≡ Ruled → drop s t ≡ row_lines w (raster_from t w r s ++ above) r
+pub rows-text : (t : List ℕ) (w r n s : ℕ) (above : List ℕ) → rows_from t w r n s ≡ Ok tt → drop s t ≡ row_lines w (raster_from t w r s ++ above) r
 unfolding raster_from
 rows-text t w zero n s above e =
     let z : s ≡ length t = eqb-true s (length t) (ruled-cond (eqb s (length t)) n (sym (rows_none t w n s) ∙ e)) in
@@ -163,7 +161,7 @@ module _ (w h k : ℕ) (raster : List ℕ) (j : IsJob w h k raster) where
         ruled = rows_accepted text w h raster j.full j.squares h 2 spot (le_refl h) spot-inside rows_follow;
       }
 
-  pub text_accepted : (room : ℕ) → raster_room ≤ room → judged text room ≡ Fine (record { size = record { width = w; height = h }; allowance = k }) spot
+  pub text_accepted : (room : ℕ) → raster_room ≤ room → judged text room ≡ Ok ((record { size = record { width = w; height = h }; allowance = k }), spot)
   text_accepted room holds = fine text room (record { size = record { width = w; height = h }; allowance = k }) spot (text-judged room holds)
 
   pub text-raster : raster_from text w h spot ≡ raster

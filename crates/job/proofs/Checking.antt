@@ -1,31 +1,27 @@
--- The checks of a job: what passes them all is a job whose text fits the room, and such a job passes; the code asks them in two parts.
+-- The checks of a job: what passes them all is a job whose text fits the room, and such a job passes.
 -- By the chain's laws; bytes are all 0 or 1 exactly where no square is found that is not.
 -- The proof of `keekaboor_write_job` and the round trips cite them.
-use mathlib.Core.Path.{◌≡◌, refl, sym, ap, ◌∙◌}
-use mathlib.Core.Bool.{true, false}
+use mathlib.Core.Path.{◌≡◌, refl, ap}
+use mathlib.Core.Bool.{true}
 use mathlib.Core.List.{List, [], ◌∷◌}
 use mathlib.Core.Option.{Option, none, some}
 use Prim.Native.Nat.{ℕ, zero, suc, ◌*◌, ◌≤◌, ◌<◌}
 use native.Mathlib.Omega.{arith}
-use native.Mathlib.Nat.{zero-add}
-use lib.Dec.{leb, ltb, eqb}
+use lib.Dec.{leb, ltb}
 use lib.ListN.{length, get_or}
-use borrow.Author.Tests.{le-leb, leb-true, ltb-false, le-ltb, eq-eqb, ne_eqb, eqb-true}
+use borrow.Author.Tests.{le-leb, leb-true, ltb-false, le-ltb, eq-eqb, eqb-true}
 use Rattle.lists.specs.Lists.{up_to}
 use Rattle.lists.proofs.Truth.{and_left, and_right, and_both}
 use Rattle.lists.proofs.Members.{first-none, none_first}
 use Rattle.lists.proofs.Ranges.{in_from, from_in}
 use Rattle.grid.specs.Limits.{allowance_limit}
-use Rattle.grid.specs.Answers.{done, or_else, first_refusal, size_out, raster_length, text_room_short, allowance_out, bad_byte}
+use Rattle.grid.specs.Answers.{done, size_out, raster_length, text_room_short, allowance_out, bad_byte}
 use Rattle.grid.specs.Raster.{size_fits, length_fits, first_bad, in_raster, bad_square}
-use Rattle.grid.specs.Rooms.{Written}
-use Rattle.grid.specs.declared.answers.Answer.{Answer}
-use Rattle.grid.proofs.Chain.{Passes, stands, gives_way, chain-passed, passed-chain, chain-append, check-passed, passed-check, check_at-passed, passed-check_at}
-use Rattle.job.specs.JobText.{job_text, IsJob, text_room}
-use Rattle.job.specs.Writing.{write_checks, checked, not_written, written_out, WriteJob, size_checks, byte_checks}
-use Rattle.job.specs.declared.write.WriteOutcome.{WriteOutcome}
+use Rattle.grid.proofs.Chain.{Passes, chain-passed, passed-chain, check-passed, passed-check, check_at-passed, passed-check_at}
+use Rattle.job.specs.JobText.{IsJob, text_room}
+use Rattle.job.specs.Writing.{write_checks, checked}
 use Rattle.job.proofs.Row.{squares?}
-use Rattle.job.proofs.Judging.{Sides, sides, sides-fit}
+use Rattle.job.proofs.Judging.{sides, sides-fit}
 
 -- bytes that are all 0 or 1
 all-at : (bytes : List ℕ) → ((i : ℕ) → i < length bytes → get_or bytes i 0 ≤ 1) → squares? bytes ≡ true
@@ -57,24 +53,6 @@ bad-none w bytes a =
     (λ i m. let r = from_in 0 (length bytes) m in le-ltb 1 (get_or bytes i 0) (at_all bytes a i (omega arith))))
 
 module _ (w h k : ℕ) (raster : List ℕ) (room : ℕ) where
-  -- the checks in two parts: the first part refuses, or the second part answers
-  first_part : {a : Answer} → a ≡ first_refusal (size_checks w h k (length raster) room) → checked w h k raster room ≡ or_else a (first_refusal (byte_checks w raster))
-  unfolding checked
-  first_part e = chain-append (size_checks w h k (length raster) room) (byte_checks w raster) ∙ ap (λ (z : Answer). or_else z (first_refusal (byte_checks w raster))) (sym e)
-
-  pub first-refused : {a : Answer} → a ≡ first_refusal (size_checks w h k (length raster) room) → (Passes a → ⊥) → checked w h k raster room ≡ a
-  first-refused {a} e n = first_part e ∙ stands a (first_refusal (byte_checks w raster)) n
-
-  pub second-answers : {a b : Answer} → a ≡ first_refusal (size_checks w h k (length raster) room) → Passes a → b ≡ first_refusal (byte_checks w raster)
-      → checked w h k raster room ≡ b
-  second-answers {a} e p f = first_part e ∙ gives_way a (first_refusal (byte_checks w raster)) p ∙ sym f
-
-  -- what the first part has shown
-  pub sizes-passed : {a : Answer} → a ≡ first_refusal (size_checks w h k (length raster) room) → Passes a → Sides w h × (length raster ≡ w * h)
-  sizes-passed e p =
-      let all = chain-passed (size_checks w h k (length raster) room) (sym (ap (λ (a : Answer). a.number) e) ∙ p) in
-      (sides w h (check-passed (size_fits w h) 0 all.0), eqb-true (length raster) (w * h) (check-passed (length_fits w h (length raster)) 1 all.1.0))
-
   -- a job that is not refused, and that it is then not refused
   pub checked_job : Passes (checked w h k raster room) → (text_room ≤ room) × IsJob w h k raster
   unfolding checked
@@ -109,15 +87,3 @@ module _ (w h k : ℕ) (raster : List ℕ) (room : ℕ) where
           ),
         ),
       )
-
--- what a refusal and a writing owe
-module _ (w h k : ℕ) (raster room : List ℕ) {a : Answer} (found : checked w h k raster (length room) ≡ a) where
-  pub refusal_owes : {o : WriteOutcome} → (Passes a → ⊥) → o ≡ not_written a → WriteJob w h k raster room o room
-  refusal_owes n e =
-      let t : eqb a.number 0 ≡ false = ne_eqb a.number 0 n in
-      record { outcome = e ∙ sym (rw (found, t)); left = sym (rw (found, t)) }
-
-  pub writing_owes : {o : WriteOutcome} {n : ℕ} {after : List ℕ} → Passes a → Written room 0 (job_text w h k raster) n after → o ≡ written_out n → WriteJob w h k raster room o after
-  writing_owes p u e =
-      let t : eqb a.number 0 ≡ true = eq-eqb a.number 0 p in
-      record { outcome = e ∙ ap written_out (u.past ∙ zero-add (length (job_text w h k raster))) ∙ sym (rw (found, t)); left = u.left ∙ sym (rw (found, t)) }

@@ -24,6 +24,9 @@ use Rattle.job.proofs.lines.judge_rows
 use Rattle.job.proofs.lines.row_head
 use Rattle.job.proofs.read.keekaboor_read_job
 use Rattle.job.proofs.write.keekaboor_write_job
+use Rattle.job.proofs.read.ReadOutcomeFromRefusal.from as read_refused
+use Rattle.job.proofs.read.ReadOutcomeFromJob.from as read_done
+use Rattle.job.proofs.write.WriteOutcomeFromRefusal.from as write_refused
 use Rattle.job.specs.contracts.reader.Reader.new as new
 use Rattle.job.specs.contracts.reader.Reader.moved as moved
 use Rattle.job.specs.contracts.reader.Reader.shape as shape
@@ -56,6 +59,16 @@ judge_rows-determined κs a pre x y v w p q = (p ∙ sym q, refl)
 
 pub row-head-determined : Determined row_head.Kinds.ps row_head.Kinds.r row_head.Reads.Pre row_head.Reads.Post
 row-head-determined κs a pre x y v w p q = (p ∙ sym q, refl)
+
+-- the outcome of a refusal, and of a job that was read
+pub read-refusal-determined : Determined read_refused.Kinds.ps read_refused.Kinds.r read_refused.Reads.Pre read_refused.Reads.Post
+read-refusal-determined κs a pre x y v w p q = (p ∙ sym q, refl)
+
+pub read-done-determined : Determined read_done.Kinds.ps read_done.Kinds.r read_done.Reads.Pre read_done.Reads.Post
+read-done-determined κs a pre x y v w p q = (p ∙ sym q, refl)
+
+pub write-refusal-determined : Determined write_refused.Kinds.ps write_refused.Kinds.r write_refused.Reads.Pre write_refused.Reads.Post
+write-refusal-determined κs a pre x y v w p q = (p ∙ sym q, refl)
 
 -- over the reader: where two results meet a function's clauses for the same arguments they are one; nothing is lent to be changed, so the result is all
 abbrev pub DeterminedByClauses : {M : Type 1} (𝓤 : Ura M) (T : Ended) → Clauses 𝓤 T → Type 1

@@ -13,7 +13,7 @@ use Rattle.grid.specs.Limits.{side, allowance_limit}
 use Rattle.text.specs.Words.{tab, feed, glyph}
 use Rattle.text.specs.Decimal.{decimal, digits}
 use Rattle.text.specs.Line.{field_room}
-use Rattle.text.proofs.Turns.{length-map}
+use Rattle.std.proofs.lemmas.List.{length-map}
 use Rattle.text.proofs.Lengths.{digits_grow, line-none, line-more}
 use Rattle.job.specs.JobText.{shape_word, shape_line, row_head, row_line, row_of, row_lines, job_text, IsJob, rows_length, text_length, text_room}
 
@@ -24,7 +24,7 @@ length-head r = omega (arith, length-append (decimal r) (tab ∷ []))
 pub length-row : (r : ℕ) (squares : List ℕ) → length (row_line r squares) ≡ length (row_head r) + length squares + 1
 unfolding row_line
 length-row r squares =
-    omega (arith, length-append (row_head r) (map glyph squares ++ (feed ∷ [])), length-append (map glyph squares) (feed ∷ []), length-map glyph squares)
+    omega (arith, length-append (row_head r) (map glyph squares ++ (feed ∷ [])), length-append (map glyph squares) (feed ∷ []), length-map squares glyph)
 
 pub length_shape : (w h k : ℕ) → length (shape_line w h k) ≡ length shape_word + field_room w + field_room h + field_room k + 1
 length_shape w h k = omega (arith, line-more shape_word w (h ∷ k ∷ []), line-more shape_word h (k ∷ []), line-more shape_word k [], line-none shape_word)
@@ -87,3 +87,7 @@ longest w h k raster j =
 pub longest-text : text_room ≡ 4613
 unfolding text_length rows_length decimal digits
 longest-text = refl
+
+-- the same, for the check of the code's number
+pub most : text_length side side allowance_limit ≡ 4613
+most = longest-text

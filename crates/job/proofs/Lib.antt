@@ -10,4 +10,3 @@ pub mod Accepted
 pub mod Outcomes
 pub mod RoundTrip
 pub mod Determined
-pub mod Held

@@ -1,6 +1,8 @@
 -- An outcome with answer 0 is that of a job, and every other one is a refusal that wrote nothing.
 -- Each refusal has a number of document 01, from 1 on, so answer 0 tells the two apart.
 -- The theorems about the exported functions open their outcomes with these.
+use Rattle.std.proofs.Common.{Err, Ok}
+use Rattle.job.specs.Reading.{Judged}
 use mathlib.Core.Path.{◌≡◌, refl, sym, ap, ◌∙◌}
 use mathlib.Core.Bool.{true, false}
 use mathlib.Core.List.{List}
@@ -17,15 +19,13 @@ use Rattle.grid.specs.Rooms.{written}
 use Rattle.job.specs.JobText.{job_text}
 use Rattle.job.specs.Reading.{raster_from, read_checks, judged, read_outcome, read_room, ReadJob}
 use Rattle.job.specs.Writing.{checked, not_written, written_out, WriteJob}
-use Rattle.job.specs.declared.read.Judged.{Judged}
-use Rattle.job.specs.declared.read.Judged.TheVariants.{Refused, Fine}
 use Rattle.job.specs.declared.read.ReadOutcome.{ReadOutcome}
 use Rattle.job.specs.declared.write.WriteOutcome.{WriteOutcome}
 
 -- reading: a refusal's number is not 0
 abbrev Numbered : Judged → Type 0
-Numbered (Refused a) = 1 ≤ a.number
-Numbered (Fine job spot) = Unit {0}
+Numbered (Err a) = 1 ≤ a.number
+Numbered (Ok (job, spot)) = Unit {0}
 
 judged-numbered : (t : List ℕ) (room : ℕ) → Numbered (judged t room)
 unfolding judged
@@ -35,19 +35,19 @@ judged-numbered t room =
 
 -- an outcome of reading: a job that was read, or a refusal
 pub record ReadDone (text room : List ℕ) (r : ReadOutcome) (after : List ℕ) (job : Job) (spot : ℕ) : Type 0 where
-  pub found : judged text (length room) ≡ Fine job spot
-  pub outcome : r ≡ read_outcome (Fine job spot)
+  pub found : judged text (length room) ≡ Ok (job, spot)
+  pub outcome : r ≡ read_outcome (Ok (job, spot))
   pub left : after ≡ written room 0 (raster_from text job.size.width job.size.height spot)
 
 pub read_done : {text room after : List ℕ} {r : ReadOutcome} → ReadJob text room r after → r.answer ≡ 0 → (job : Job) × (spot : ℕ) × ReadDone text room r after job spot
 read_done {text} {room} {after} {r} p z = go (judged text (length room)) refl (judged-numbered text (length room))
   where
     go : (j : Judged) → judged text (length room) ≡ j → Numbered (judged text (length room)) → (job : Job) × (spot : ℕ) × ReadDone text room r after job spot
-    go (Refused a) e n =
-        let o : r ≡ read_outcome (Refused a) = p.outcome ∙ ap read_outcome e in
+    go (Err a) e n =
+        let o : r ≡ read_outcome (Err a) = p.outcome ∙ ap read_outcome e in
         let m : 1 ≤ a.number = rw e at n in
         absurd (omega (arith, ap (λ (x : ReadOutcome). x.answer) o))
-    go (Fine job spot) e n = (job, spot, record { found = e; outcome = p.outcome ∙ ap read_outcome e; left = p.left ∙ ap (read_room text room) e })
+    go (Ok (job, spot)) e n = (job, spot, record { found = e; outcome = p.outcome ∙ ap read_outcome e; left = p.left ∙ ap (read_room text room) e })
 
 -- "On a refusal .. width, height and allowance are returned as 0, and nothing is written"
 pub record ReadRefused (room : List ℕ) (r : ReadOutcome) (after : List ℕ) : Type 0 where
@@ -60,15 +60,15 @@ pub read-refused : {text room after : List ℕ} {r : ReadOutcome} → ReadJob te
 read-refused {text} {room} {after} {r} p z = go (judged text (length room)) refl
   where
     go : (j : Judged) → judged text (length room) ≡ j → ReadRefused room r after
-    go (Refused a) e =
-        let o : r ≡ read_outcome (Refused a) = p.outcome ∙ ap read_outcome e in
+    go (Err a) e =
+        let o : r ≡ read_outcome (Err a) = p.outcome ∙ ap read_outcome e in
         record {
           width = ap (λ (x : ReadOutcome). x.width) o;
           height = ap (λ (x : ReadOutcome). x.height) o;
           allowance = ap (λ (x : ReadOutcome). x.allowance) o;
           left = p.left ∙ ap (read_room text room) e;
         }
-    go (Fine job spot) e = absurd (z (ap (λ (x : ReadOutcome). x.answer) (p.outcome ∙ ap read_outcome e)))
+    go (Ok (job, spot)) e = absurd (z (ap (λ (x : ReadOutcome). x.answer) (p.outcome ∙ ap read_outcome e)))
 
 -- writing: an answer 0 has passed the checks, and every other one is a refusal of length 0 that wrote nothing
 module _ {w h k : ℕ} {raster room after : List ℕ} {o : WriteOutcome} (p : WriteJob w h k raster room o after) where

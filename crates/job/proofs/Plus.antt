@@ -1,4 +1,5 @@
 -- Document 01's plus: its text is the one printed there, and is read as the plus. By evaluation.
+use Rattle.std.proofs.Common.{Err, Ok}
 use mathlib.Core.Path.{◌≡◌, refl}
 use mathlib.Core.List.{List, [], ◌∷◌, ◌++◌}
 use Prim.Native.Nat.{ℕ}
@@ -9,7 +10,6 @@ use Rattle.text.specs.Decimal.{digits, decimal, run, value}
 use Rattle.text.specs.Line.{line, numbers_from, line_at}
 use Rattle.job.specs.JobText.{row_head, row_line, row_lines, job_text, rows_length, text_length}
 use Rattle.job.specs.Reading.{shape_at, row_at, rows_from, raster_from, judged}
-use Rattle.job.specs.declared.read.Judged.TheVariants.{Refused, Fine}
 
 abbrev pub plus_text : List ℕ
 plus_text =
@@ -25,7 +25,7 @@ pub written : job_text 3 3 64 plus_raster ≡ plus_text
 unfolding job_text line row_lines row_line row_head decimal digits
 written = refl
 
-pub read : judged plus_text raster_room ≡ Fine (record { size = record { width = 3; height = 3 }; allowance = 64 }) 13
+pub read : judged plus_text raster_room ≡ Ok ((record { size = record { width = 3; height = 3 }; allowance = 64 }), 13)
 unfolding judged or_else first_refusal shape_at line_at numbers_from line rows_from row_at row_line row_head text_length rows_length decimal digits run value begins
 read = refl
 
@@ -34,10 +34,10 @@ unfolding raster_from row_head decimal digits
 raster = refl
 
 -- text past the end, a missing line, a leading zero, a fifth digit
-pub past_end : judged (plus_text ++ (10 ∷ [])) raster_room ≡ Refused (answer 11 5 0)
+pub past_end : judged (plus_text ++ (10 ∷ [])) raster_room ≡ Err (answer 11 5 0)
 unfolding judged or_else first_refusal shape_at line_at numbers_from line rows_from row_at row_line row_head text_length rows_length decimal digits run value begins
 past_end = refl
 
-pub none_at_all : judged [] raster_room ≡ Refused (answer 11 1 0)
+pub none_at_all : judged [] raster_room ≡ Err (answer 11 1 0)
 unfolding judged or_else first_refusal shape_at line_at numbers_from line rows_from row_at row_line row_head text_length rows_length decimal digits run value begins
 none_at_all = refl

@@ -1,5 +1,8 @@
 -- The lines of the rows, one after the other: one turn of judging them, and one turn of copying their squares.
 -- Each opens the definition at the next row, once; the loops' proofs cite nothing else.
+use Rattle.std.proofs.Common.{Err, None, Ok, Option, Result, Some}
+use Rattle.grid.specs.declared.answers.Refusal.TheVariants.{BadLine}
+use Rattle.grid.specs.declared.answers.Refusal.{Refusal}
 use mathlib.Core.Path.{◌≡◌, refl, sym, ap, ◌∙◌}
 use mathlib.Core.Bool.{Bool, true, false, cond}
 use mathlib.Core.List.{List, map}
@@ -8,17 +11,13 @@ use native.Mathlib.Omega.{arith}
 use native.Mathlib.Nat.{zero-mul, suc-mul}
 use lib.Dec.{eqb}
 use lib.ListN.{length, take, drop, length-append}
-use borrow.Author.Tests.{eq-eqb, ne_eqb}
-use Rattle.text.specs.declared.read.Next.{Next}
-use Rattle.text.specs.declared.read.Next.TheVariants.{Spot, Nothing}
+use borrow.Author.Tests.{eq-eqb}
 use Rattle.text.specs.Words.{square}
 use Rattle.grid.specs.Rooms.{written}
 use Rattle.grid.proofs.Writing.{written_none, written-first}
 use Rattle.text.proofs.Passes.{passes-inside}
 use Rattle.job.specs.JobText.{row_head, row_line}
 use Rattle.job.specs.Reading.{squares_at, row_at, then_rows, rows_from, raster_from}
-use Rattle.job.specs.declared.lines.Lines.{Lines}
-use Rattle.job.specs.declared.lines.Lines.TheVariants.{Ruled, Bad}
 use Rattle.job.proofs.Lengths.{length-row}
 use Rattle.job.proofs.Row.{Rowed, whole_rowed}
 
@@ -27,7 +26,7 @@ module _ (t : List ℕ) (w line s : ℕ) where
   unfolding rows_from
   rows_next r = refl
 
-  pub rows_none : rows_from t w 0 line s ≡ cond (eqb s (length t)) Ruled (Bad line)
+  pub rows_none : rows_from t w 0 line s ≡ cond (eqb s (length t)) (Ok tt) (Err (BadLine line))
   unfolding rows_from
   rows_none = refl
 
@@ -35,44 +34,48 @@ module _ (t : List ℕ) (w line s : ℕ) where
     more : rows_from t w left line s ≡ then_rows (row_at t s w (left - 1)) line (λ next. rows_from t w (left - 1) (line + 1) next)
     more = let e : left ≡ suc (left - 1) = omega arith in ap (λ (x : ℕ). rows_from t w x line s) e ∙ rows_next (left - 1)
 
-    pub rows-turn : {next : ℕ} → row_at t s w (left - 1) ≡ Spot next → rows_from t w left line s ≡ rows_from t w (left - 1) (line + 1) next
-    rows-turn e = more ∙ ap (λ (x : Next). then_rows x line (λ next. rows_from t w (left - 1) (line + 1) next)) e
+    pub rows-turn : {next : ℕ} → row_at t s w (left - 1) ≡ Some next → rows_from t w left line s ≡ rows_from t w (left - 1) (line + 1) next
+    rows-turn e = more ∙ ap (λ (x : Option ℕ). then_rows x line (λ next. rows_from t w (left - 1) (line + 1) next)) e
 
-    pub rows-bad : row_at t s w (left - 1) ≡ Nothing → rows_from t w left line s ≡ Bad line
-    rows-bad e = more ∙ ap (λ (x : Next). then_rows x line (λ next. rows_from t w (left - 1) (line + 1) next)) e
+    pub rows-bad : row_at t s w (left - 1) ≡ None → rows_from t w left line s ≡ Err (BadLine line)
+    rows-bad e = more ∙ ap (λ (x : Option ℕ). then_rows x line (λ next. rows_from t w (left - 1) (line + 1) next)) e
 
   module _ (left : ℕ) (h : left ≤ 0) where
-    done : rows_from t w left line s ≡ cond (eqb s (length t)) Ruled (Bad line)
-    done = let e : left ≡ 0 = omega arith in ap (λ (x : ℕ). rows_from t w x line s) e ∙ rows_none
+    pub rows-done : rows_from t w left line s ≡ cond (eqb s (length t)) (Ok tt) (Err (BadLine line))
+    rows-done = let e : left ≡ 0 = omega arith in ap (λ (x : ℕ). rows_from t w x line s) e ∙ rows_none
 
-    pub rows-ended : s ≡ length t → rows_from t w left line s ≡ Ruled
-    rows-ended e = done ∙ ap (λ (b : Bool). cond b Ruled (Bad line)) (eq-eqb s (length t) e)
+    pub rows-ended : s ≡ length t → rows_from t w left line s ≡ Ok tt
+    rows-ended e = rows-done ∙ rw (eq-eqb s (length t) e)
 
-    pub rows-past : (s ≡ length t → ⊥) → rows_from t w left line s ≡ Bad line
-    rows-past n = done ∙ ap (λ (b : Bool). cond b Ruled (Bad line)) (ne_eqb s (length t) n)
+-- the line of a row takes a byte at least, and ends inside the text
+pub row-moves : (t : List ℕ) (s w r : ℕ) {next : ℕ} → row_at t s w r ≡ Some next → (s < next) × (next ≤ length t)
+row-moves t s w r e =
+    let p = whole_rowed t s w r e in
+    let squares : List ℕ = squares_at t (s + length (row_head r)) w in
+    (omega (arith, p.line.past, length-row r squares), passes-inside t s (row_line r squares) (omega (arith, length-row r squares)) p.line)
 
 -- Rows that all stand as ruled: the first of them stands, and the others stand past it, whatever line the first is counted as.
-ruled-then : (x : Next) (line : ℕ) (rest : ℕ → Lines) → then_rows x line rest ≡ Ruled → (next : ℕ) × (x ≡ Spot next) × (rest next ≡ Ruled)
-ruled-then (Spot next) line rest e = (next, refl, e)
-ruled-then Nothing line rest e = let z : ◌≡◌ {A = ℕ} 0 1 = cc in absurd (omega arith)
+ruled-then : (x : Option ℕ) (line : ℕ) (rest : ℕ → Result (Unit {0}) Refusal) → then_rows x line rest ≡ Ok tt → (next : ℕ) × (x ≡ Some next) × (rest next ≡ Ok tt)
+ruled-then (Some next) line rest e = (next, refl, e)
+ruled-then None line rest e = absurd cc
 
-pub ruled-cond : (b : Bool) (line : ℕ) → cond b Ruled (Bad line) ≡ Ruled → b ≡ true
+pub ruled-cond : (b : Bool) (line : ℕ) → ◌≡◌ {A = Result (Unit {0}) Refusal} (cond b (Ok tt) (Err (BadLine line))) (Ok tt) → b ≡ true
 ruled-cond true line e = refl
-ruled-cond false line e = let z : ◌≡◌ {A = ℕ} 0 1 = cc in absurd (omega arith)
+ruled-cond false line e = absurd cc
 
-any-line : (t : List ℕ) (w r m n s : ℕ) → rows_from t w r m s ≡ Ruled → rows_from t w r n s ≡ Ruled
+any-line : (t : List ℕ) (w r m n s : ℕ) → rows_from t w r m s ≡ Ok tt → rows_from t w r n s ≡ Ok tt
 unfolding rows_from
 any-line t w zero m n s e = rw (ruled-cond (eqb s (length t)) m e)
 any-line t w (suc r) m n s e =
     let f = ruled-then (row_at t s w r) m (λ next. rows_from t w r (m + 1) next) e in
-    ap (λ (x : Next). then_rows x n (λ next. rows_from t w r (n + 1) next)) f.1 ∙ any-line t w r (m + 1) (n + 1) f.0 f.2
+    ap (λ (x : Option ℕ). then_rows x n (λ next. rows_from t w r (n + 1) next)) f.1 ∙ any-line t w r (m + 1) (n + 1) f.0 f.2
 
 -- the spot past the line of row r
 abbrev pub past_row : ℕ → ℕ → ℕ → ℕ
 past_row s w r = s + (length (row_head r) + w + 1)
 
-module _ (t : List ℕ) (w r n s : ℕ) (e : rows_from t w (suc r) n s ≡ Ruled) where
-  first-row : (next : ℕ) × (row_at t s w r ≡ Spot next) × (rows_from t w r (n + 1) next ≡ Ruled)
+module _ (t : List ℕ) (w r n s : ℕ) (e : rows_from t w (suc r) n s ≡ Ok tt) where
+  first-row : (next : ℕ) × (row_at t s w r ≡ Some next) × (rows_from t w r (n + 1) next ≡ Ok tt)
   unfolding rows_from
   first-row = ruled-then (row_at t s w r) n (λ next. rows_from t w r (n + 1) next) e
 
@@ -83,7 +86,7 @@ module _ (t : List ℕ) (w r n s : ℕ) (e : rows_from t w (suc r) n s ≡ Ruled
       let q : f.0 ≡ past_row s w r = omega (arith, p.line.past, length-row r (squares_at t (s + length (row_head r)) w), p.wide) in
       rw q at p
 
-  pub rows-there : rows_from t w r n (past_row s w r) ≡ Ruled
+  pub rows-there : rows_from t w r n (past_row s w r) ≡ Ok tt
   rows-there =
       let f = first-row in
       let p = whole_rowed t s w r f.1 in
@@ -96,7 +99,7 @@ module _ (t : List ℕ) (w r n s : ℕ) (e : rows_from t w (suc r) n s ≡ Ruled
       let p = row-there in
       passes-inside t s (row_line r (squares_at t (s + length (row_head r)) w)) (omega (arith, length-row r (squares_at t (s + length (row_head r)) w))) p.line
 
-pub length-raster : (t : List ℕ) (w r n s : ℕ) → rows_from t w r n s ≡ Ruled → length (raster_from t w r s) ≡ r * w
+pub length-raster : (t : List ℕ) (w r n s : ℕ) → rows_from t w r n s ≡ Ok tt → length (raster_from t w r s) ≡ r * w
 unfolding raster_from
 length-raster t w zero n s e = sym (zero-mul w)
 length-raster t w (suc r) n s e =
@@ -104,7 +107,7 @@ length-raster t w (suc r) n s e =
     ∙ omega (arith, length-raster t w r n (past_row s w r) (rows-there t w r n s e), (row-there t w r n s e).wide, suc-mul r w)
 
 -- a turn of copying: the squares of the first row go where the rows below end
-pub copy_next : (t room : List ℕ) (w r n s : ℕ) → rows_from t w (suc r) n s ≡ Ruled → suc r * w ≤ length room
+pub copy_next : (t room : List ℕ) (w r n s : ℕ) → rows_from t w (suc r) n s ≡ Ok tt → suc r * w ≤ length room
     → written room 0 (raster_from t w (suc r) s) ≡ written (written room (r * w) (squares_at t (s + length (row_head r)) w)) 0 (raster_from t w r (past_row s w r))
 unfolding raster_from
 copy_next t room w r n s e h =
@@ -116,14 +119,14 @@ copy_next t room w r n s e h =
     ∙ written-first room 0 below squares (omega (arith, suc-mul r w, (row-there t w r n s e).wide)))
 
 module _ (t room : List ℕ) (w left s : ℕ) where
-  module _ (h : 0 < left) (e : rows_from t w left 2 s ≡ Ruled) where
+  module _ (h : 0 < left) (e : rows_from t w left 2 s ≡ Ok tt) where
     same : left ≡ suc (left - 1)
     same = omega arith
 
-    ruled : rows_from t w (suc (left - 1)) 2 s ≡ Ruled
+    ruled : rows_from t w (suc (left - 1)) 2 s ≡ Ok tt
     ruled = rw same at e
 
-    pub ruled-turn : rows_from t w (left - 1) 2 (past_row s w (left - 1)) ≡ Ruled
+    pub ruled-turn : rows_from t w (left - 1) 2 (past_row s w (left - 1)) ≡ Ok tt
     ruled-turn = rows-there t w (left - 1) 2 s ruled
 
     pub inside-turn : past_row s w (left - 1) ≤ length t

@@ -5,7 +5,6 @@ use Rattle.grid.specs.Answers.{done, check, check_at, first_refusal, size_out, r
 use Rattle.grid.specs.Raster.{size_fits, length_fits, bad_square}
 use Rattle.grid.specs.Rooms.{written}
 use Rattle.grid.specs.declared.answers.Answer.{Answer}
-use Rattle.grid.specs.declared.raster.Job.{Job}
 use Rattle.job.specs.JobText.{job_text, text_room}
 use Rattle.job.specs.declared.write.WriteOutcome.{WriteOutcome}
 
@@ -37,14 +36,3 @@ written_out n = record { answer = done.number; place_x = done.x; place_y = done.
 pub record WriteJob (w h k : ℕ) (raster room : List ℕ) (r : WriteOutcome) (after : List ℕ) : Type 0 where
   pub outcome : r ≡ or_work (checked w h k raster (length room)) (not_written (checked w h k raster (length room))) (written_out (length (job_text w h k raster)))
   pub left : after ≡ or_work (checked w h k raster (length room)) room (written room 0 (job_text w h k raster))
-
--- For inner functions alone: the checks that need no look at the raster's bytes, and the one that does; a job's text by its struct.
-abbrev pub size_checks : ℕ → ℕ → ℕ → ℕ → ℕ → List Answer
-size_checks w h k n room =
-    check (size_fits w h) size_out ∷ check (length_fits w h n) raster_length ∷ check (leb text_room room) text_room_short ∷ check (leb k allowance_limit) allowance_out ∷ []
-
-abbrev pub byte_checks : ℕ → List ℕ → List Answer
-byte_checks w raster = check_at (bad_square w raster) bad_byte ∷ []
-
-abbrev pub text_of : Job → List ℕ → List ℕ
-text_of job raster = job_text job.size.width job.size.height job.allowance raster

@@ -1,17 +1,16 @@
 // Reading a job: everything is judged before a byte is written.
-ghost use Rattle.std.specs.Prelude.{◌≡◌};
+ghost use Rattle.std.specs.Prelude.{◌≡◌, Ok, Err};
+ghost use Rattle.grid.specs.Answers.{answer_of};
 ghost use Rattle.grid.specs.Rooms.{written};
-ghost use Rattle.job.specs.Reading.{raster_from, judged_lines, judged, read_outcome, Copies, ReadJob};
+ghost use Rattle.job.specs.Reading.{raster_from, judged_lines, judged, told, read_outcome, Copies, ReadJob};
 
-use crate::lines::{Lines, Shape, row_head};
+use crate::lines::row_head;
 use crate::reader::{rows_of, shape_of};
 use crate::room::TEXT_ROOM;
-use grid::answers::{
-    ALLOWANCE_OUT, Answer, BAD_LINE, DONE, RASTER_ROOM_SHORT, SIZE_OUT, TEXT_LONG,
-};
-use grid::limits::{ALLOWANCE_LIMIT, RASTER_ROOM};
+use grid::answers::{DONE, Refusal, check};
+use grid::limits::RASTER_ROOM;
 use grid::lines::Row;
-use grid::raster::{Job, Size, size_fits};
+use grid::raster::{Job, Size};
 use text::write::put_squares;
 
 #[repr(C)]
@@ -25,55 +24,54 @@ pub struct ReadOutcome {
     pub allowance: u64,
 }
 
-// What judging a text finds: a refusal, or a job and the spot past line 1.
-#[derive(Clone, Copy)]
-pub enum Judged {
-    Refused(Answer),
-    Fine(Job, usize),
-}
+impl From<Refusal> for ReadOutcome {
+    ghost from_gives = { λ r o. o ≡ read_outcome (Err (answer_of r)) };
 
-// The lines of a text, through the reader that holds it.
-fn judge_lines(text: &[u8]) -> Judged
-    ensures { result ≡ judged_lines text.now }
-{
-    let Shape::Line {
-        width,
-        height,
-        allowance,
-        next,
-    } = shape_of(text)
-    else {
-        return Judged::Refused(Answer::at(BAD_LINE, 1, 0));
-    };
-    let sizes = Answer::done()
-        .unless(size_fits(width, height), SIZE_OUT)
-        .unless(allowance <= ALLOWANCE_LIMIT as u64, ALLOWANCE_OUT);
-    if sizes.number != DONE {
-        return Judged::Refused(sizes);
-    }
-    let size = Size {
-        width: width as usize,
-        height: height as usize,
-    };
-    let job = Job {
-        size,
-        allowance: allowance as usize,
-    };
-    match rows_of(text, next, size) {
-        Lines::Bad(line) => Judged::Refused(Answer::at(BAD_LINE, line as u64, 0)),
-        Lines::Ruled => Judged::Fine(job, next),
+    fn from(refusal: Refusal) -> ReadOutcome {
+        let answer = refusal.answer();
+        ReadOutcome {
+            answer: answer.number,
+            place_x: answer.x,
+            place_y: answer.y,
+            width: 0,
+            height: 0,
+            allowance: 0,
+        }
     }
 }
 
-fn judge(text: &[u8], room: usize) -> Judged
-    ensures { result ≡ judged text.now room }
-{
-    let lent = Answer::done()
-        .unless(RASTER_ROOM <= room, RASTER_ROOM_SHORT)
-        .unless(text.len() <= TEXT_ROOM, TEXT_LONG);
-    if lent.number != DONE {
-        return Judged::Refused(lent);
+impl From<Job> for ReadOutcome {
+    ghost from_gives = { λ j o. o ≡ read_outcome (Ok (j, 0)) };
+
+    fn from(job: Job) -> ReadOutcome {
+        ReadOutcome {
+            answer: DONE,
+            place_x: 0,
+            place_y: 0,
+            width: job.size.width as u64,
+            height: job.size.height as u64,
+            allowance: job.allowance as u64,
+        }
     }
+}
+
+// The lines of a text, through the reader that holds it: the job, and the spot past line 1.
+#[tactic(auto, unfolding(crate::specs::Reading::judged_lines, grid::specs::Answers::first_refusal, grid::specs::Answers::or_else))]
+fn judge_lines(text: &[u8]) -> Result<(Job, usize), Refusal>
+    ensures { told result ≡ judged_lines text.now }
+{
+    let (shape, next) = shape_of(text).ok_or(Refusal::BadLine(1))?;
+    let job = shape.job()?;
+    rows_of(text, next, job.size)?;
+    Ok((job, next))
+}
+
+#[tactic(auto, using(crate::proofs::Lengths::most), unfolding(crate::specs::Reading::judged, crate::specs::Reading::judged_lines, grid::specs::Answers::first_refusal, grid::specs::Answers::or_else))]
+fn judge(text: &[u8], room: usize) -> Result<(Job, usize), Refusal>
+    ensures { told result ≡ judged text.now room }
+{
+    check(RASTER_ROOM <= room, Refusal::RasterRoomShort)?;
+    check(text.len() <= TEXT_ROOM, Refusal::TextLong)?;
     judge_lines(text)
 }
 
@@ -84,45 +82,21 @@ fn copy_rows(text: &[u8], spot: usize, size: Size, room: &mut [u8])
 {
     let width = size.width;
     let mut at = spot;
-    let mut left = size.height;
-    while 0 < left {
-        left -= 1;
-        let body = at + row_head(Row(left));
-        put_squares(room, left * width, &text[body..body + width]);
+    for row in (0..size.height).rev() {
+        let body = at + row_head(Row(row));
+        put_squares(room, row * width, &text[body..body + width]);
         at = body + width + 1;
-    }
-}
-
-fn outcome(judged: Judged) -> ReadOutcome
-    ensures { result ≡ read_outcome judged }
-{
-    match judged {
-        Judged::Refused(refusal) => ReadOutcome {
-            answer: refusal.number,
-            place_x: refusal.x,
-            place_y: refusal.y,
-            width: 0,
-            height: 0,
-            allowance: 0,
-        },
-        Judged::Fine(job, _) => ReadOutcome {
-            answer: DONE,
-            place_x: 0,
-            place_y: 0,
-            width: job.size.width as u64,
-            height: job.size.height as u64,
-            allowance: job.allowance as u64,
-        },
     }
 }
 
 pub fn keekaboor_read_job(text: &[u8], raster_room: &mut [u8]) -> ReadOutcome
     ensures { ReadJob text.now raster_room.old result raster_room.new }
 {
-    let judged = judge(text, raster_room.len());
-    let Judged::Fine(job, spot) = judged else {
-        return outcome(judged);
-    };
-    copy_rows(text, spot, job.size, raster_room);
-    outcome(judged)
+    match judge(text, raster_room.len()) {
+        Ok((job, spot)) => {
+            copy_rows(text, spot, job.size, raster_room);
+            job.into()
+        }
+        Err(refusal) => refusal.into(),
+    }
 }

@@ -1,11 +1,11 @@
 // The reader of a job: the text it was lent and the spot it has reached. Each of its functions makes it, moves it, or takes it apart and leaves
 // the work to a function on text and spot; the two functions below it take a plain text, and whoever calls these knows nothing of a reader.
-ghost use Rattle.std.specs.Prelude.{◌≡◌, ◌≤◌};
-ghost use Rattle.grid.specs.Limits.{side};
+ghost use Rattle.std.specs.Prelude.{◌≡◌};
 ghost use Rattle.job.specs.Reader.{holding};
 ghost use Rattle.job.specs.Reading.{shape_at, rows_from};
 
-use crate::lines::{Lines, Shape, judge_rows, read_shape};
+use crate::lines::{Shape, judge_rows, read_shape};
+use grid::answers::Refusal;
 use grid::raster::Size;
 
 #[derive(Clone, Copy)]
@@ -32,15 +32,14 @@ impl<'a> Reader<'a> {
     }
 
     // Line 1, at its spot.
-    pub fn shape(self) -> Shape
+    pub fn shape(self) -> Option<(Shape, usize)>
         ensures { result ≡ shape_at self.entry.text.now self.entry.spot }
     {
         read_shape(self.text, self.spot)
     }
 
     // The lines of the rows, from its spot on.
-    pub fn rows(self, size: Size) -> Lines
-        requires { size.height ≤ side }
+    pub fn rows(self, size: Size) -> Result<(), Refusal>
         ensures { result ≡ rows_from self.entry.text.now size.width size.height 2 self.entry.spot }
     {
         judge_rows(self.text, self.spot, size)
@@ -48,7 +47,7 @@ impl<'a> Reader<'a> {
 }
 
 // Line 1 of a text.
-pub fn shape_of(text: &[u8]) -> Shape
+pub fn shape_of(text: &[u8]) -> Option<(Shape, usize)>
     ensures { result ≡ shape_at text.now 0 }
 {
     let reader = Reader::new(text);
@@ -56,8 +55,7 @@ pub fn shape_of(text: &[u8]) -> Shape
 }
 
 // The lines of the rows of a text, from a spot on.
-pub fn rows_of(text: &[u8], spot: usize, size: Size) -> Lines
-    requires { size.height ≤ side }
+pub fn rows_of(text: &[u8], spot: usize, size: Size) -> Result<(), Refusal>
     ensures { result ≡ rows_from text.now size.width size.height 2 spot }
 {
     Reader::new(text).moved(spot).rows(size)

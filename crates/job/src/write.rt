@@ -1,18 +1,16 @@
 // Writing a job: checks in document 01's order, then the one text of the job.
-ghost use Rattle.std.specs.Prelude.{◌≡◌, ◌+◌, ◌≤◌, length};
-ghost use Rattle.grid.specs.Answers.{first_refusal};
-ghost use Rattle.grid.specs.Code.{Sized};
+ghost use Rattle.std.specs.Prelude.{◌≡◌, ◌+◌, ◌≤◌, length, IfOk};
+ghost use Rattle.grid.specs.Answers.{answer_of, answered};
 ghost use Rattle.grid.specs.Rooms.{Written};
-ghost use Rattle.job.specs.JobText.{shape_line, row_line, row_lines};
-ghost use Rattle.job.specs.Writing.{not_written, size_checks, byte_checks, text_of, WriteJob};
+ghost use Rattle.job.specs.JobText.{row_line, row_lines, job_text};
+ghost use Rattle.job.specs.Writing.{not_written, checked, WriteJob};
 
 use crate::room::TEXT_ROOM;
-use grid::answers::Answer;
+use grid::answers::{DONE, Refusal, check};
 use grid::limits::ALLOWANCE_LIMIT;
 use grid::lines::Row;
-use grid::raster::{Job, Size};
+use grid::raster::Raster;
 use grid::rooms::put_bytes;
-use grid::{answers, raster};
 use text::glyphs::{FEED, TAB};
 use text::line::put_line;
 use text::write::{put_body, put_byte, put_field};
@@ -26,49 +24,39 @@ pub struct WriteOutcome {
     pub length: u64,
 }
 
-fn refused(a: Answer) -> WriteOutcome
-    ensures { result ≡ not_written a }
-{
-    WriteOutcome {
-        answer: a.number,
-        place_x: a.x,
-        place_y: a.y,
-        length: 0,
+impl From<Refusal> for WriteOutcome {
+    ghost from_gives = { λ r o. o ≡ not_written (answer_of r) };
+
+    fn from(refusal: Refusal) -> WriteOutcome {
+        let answer = refusal.answer();
+        WriteOutcome {
+            answer: answer.number,
+            place_x: answer.x,
+            place_y: answer.y,
+            length: 0,
+        }
     }
 }
 
-// The checks that need no look at the raster's bytes: 1, 2, 5, 6.
-fn sizes_checked(width: u64, height: u64, allowance: u64, raster: &[u8], room: usize) -> Answer
-    ensures { result ≡ first_refusal (size_checks width height allowance (length raster.now) room) }
+// The checks in their order: 1, 2, 5, 6, 7.
+#[tactic(auto, using(crate::proofs::Lengths::most), unfolding(crate::specs::Writing::checked, grid::specs::Answers::first_refusal, grid::specs::Answers::or_else))]
+fn checked<'a>(
+    width: u64,
+    height: u64,
+    allowance: u64,
+    bytes: &'a [u8],
+    room: usize,
+) -> Result<Raster<'a>, Refusal>
+    ensures value { answered result ≡ checked width height allowance bytes.now room }
+    ensures raster { IfOk result (λ r. (r.size.width ≡ width) × (r.size.height ≡ height) × (r.bytes ≡ bytes.entry)) }
 {
-    Answer::done()
-        .unless(raster::size_fits(width, height), answers::SIZE_OUT)
-        .unless(
-            raster::length_fits(width, height, raster.len() as u64),
-            answers::RASTER_LENGTH,
-        )
-        .unless(TEXT_ROOM <= room, answers::TEXT_ROOM_SHORT)
-        .unless(allowance <= ALLOWANCE_LIMIT as u64, answers::ALLOWANCE_OUT)
-}
-
-// The check of the raster's bytes: 7.
-fn bytes_checked(size: Size, raster: &[u8]) -> Answer
-    requires { Sized size raster.now }
-    ensures { result ≡ first_refusal (byte_checks size.width raster.now) }
-{
-    Answer::done().found(raster::bad_byte(size, raster), answers::BAD_BYTE)
-}
-
-fn put_shape(room: &mut [u8], job: Job) -> usize
-    requires { length (shape_line job.size.width job.size.height job.allowance) ≤ length room.old }
-    ensures { Written room.old 0 (shape_line job.size.width job.size.height job.allowance) result room.new }
-{
-    let numbers = [
-        job.size.width as u64,
-        job.size.height as u64,
-        job.allowance as u64,
-    ];
-    put_line(room, 0, b"shape", &numbers)
+    let raster = Raster::checked(width, height, bytes)?;
+    check(TEXT_ROOM <= room, Refusal::TextRoomShort)?;
+    check(allowance <= ALLOWANCE_LIMIT as u64, Refusal::AllowanceOut)?;
+    match raster.bad_byte() {
+        Some((column, row)) => Err(Refusal::BadByte(column, row)),
+        None => Ok(raster),
+    }
 }
 
 fn put_row(room: &mut [u8], spot: usize, row: Row, squares: &[u8]) -> usize
@@ -83,27 +71,27 @@ fn put_row(room: &mut [u8], spot: usize, row: Row, squares: &[u8]) -> usize
 }
 
 // One line for each row from the top row down.
-fn put_rows(room: &mut [u8], spot: usize, size: Size, raster: &[u8]) -> usize
-    requires { Sized size raster.now × (spot + length (row_lines size.width raster.now size.height) ≤ length room.old) }
-    ensures { Written room.old spot (row_lines size.width raster.now size.height) result room.new }
+fn put_rows(room: &mut [u8], spot: usize, raster: Raster) -> usize
+    requires { spot + length (row_lines raster.size.width raster.bytes.now raster.size.height) ≤ length room.old }
+    ensures { Written room.old spot (row_lines raster.entry.size.width raster.entry.bytes.now raster.entry.size.height) result room.new }
 {
-    let width = size.width;
+    let width = raster.size.width;
     let mut at = spot;
-    let mut left = size.height;
-    while 0 < left {
-        left -= 1;
-        let from = left * width;
-        at = put_row(room, at, Row(left), &raster[from..from + width]);
+    for row in (0..raster.size.height).rev() {
+        let from = row * width;
+        at = put_row(room, at, Row(row), &raster.bytes[from..from + width]);
     }
     at
 }
 
-fn put_text(room: &mut [u8], job: Job, raster: &[u8]) -> usize
-    requires { Sized job.size raster.now × (length (text_of job raster.now) ≤ length room.old) }
-    ensures { Written room.old 0 (text_of job raster.now) result room.new }
+fn put_text(room: &mut [u8], raster: Raster, allowance: u64) -> usize
+    requires { length (job_text raster.size.width raster.size.height allowance raster.bytes.now) ≤ length room.old }
+    ensures { Written room.old 0 (job_text raster.entry.size.width raster.entry.size.height allowance raster.entry.bytes.now) result room.new }
 {
-    let next = put_shape(room, job);
-    put_rows(room, next, job.size, raster)
+    let size = raster.size;
+    let numbers = [size.width as u64, size.height as u64, allowance];
+    let next = put_line(room, 0, b"shape", &numbers);
+    put_rows(room, next, raster)
 }
 
 pub fn keekaboor_write_job(
@@ -115,27 +103,13 @@ pub fn keekaboor_write_job(
 ) -> WriteOutcome
     ensures { WriteJob width height allowance raster.now text_room.old result text_room.new }
 {
-    let sizes = sizes_checked(width, height, allowance, raster, text_room.len());
-    if sizes.number != answers::DONE {
-        return refused(sizes);
-    }
-    let size = Size {
-        width: width as usize,
-        height: height as usize,
-    };
-    let bytes = bytes_checked(size, raster);
-    if bytes.number != answers::DONE {
-        return refused(bytes);
-    }
-    let job = Job {
-        size,
-        allowance: allowance as usize,
-    };
-    let length = put_text(text_room, job, raster);
-    WriteOutcome {
-        answer: answers::DONE,
-        place_x: 0,
-        place_y: 0,
-        length: length as u64,
+    match checked(width, height, allowance, raster, text_room.len()) {
+        Ok(raster) => WriteOutcome {
+            answer: DONE,
+            place_x: 0,
+            place_y: 0,
+            length: put_text(text_room, raster, allowance) as u64,
+        },
+        Err(refusal) => refusal.into(),
     }
 }

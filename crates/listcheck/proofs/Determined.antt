@@ -10,6 +10,7 @@ use Rattle.listcheck.proofs.flash.bad_line
 use Rattle.listcheck.proofs.bare.is_held
 use Rattle.listcheck.proofs.bare.bare_square
 use Rattle.listcheck.proofs.entry.keekaboor_check
+use Rattle.listcheck.proofs.entry.CheckedFromRefusal.from as refused
 
 pub read-flash-determined : Determined read_flash.Kinds.ps read_flash.Kinds.r read_flash.Reads.Pre read_flash.Reads.Post
 read-flash-determined κs a pre x y v w p q = (p ∙ sym q, refl)
@@ -34,3 +35,6 @@ check-determined κs a pre x y v w p q =
     let e = p ∙ sym q in
     let m = ap (λ (g : Given). g.marks_after) e in
     (ap (λ (g : Given). g.outcome) e, λ i. (tt, (tt, (tt, (tt, (tt, (m i, tt)))))))
+
+pub refused-determined : Determined refused.Kinds.ps refused.Kinds.r refused.Reads.Pre refused.Reads.Post
+refused-determined κs a pre x y v w p q = (p ∙ sym q, refl)

@@ -11,37 +11,33 @@ use Rattle.grid.specs.Squares.{Area, InGrid, Rectangle, Square, square}
 use Rattle.grid.specs.Code.{place_of}
 use Rattle.grid.specs.declared.lines.Column.{Column}
 use Rattle.grid.specs.declared.lines.Row.{Row}
-use Rattle.grid.specs.declared.raster.Place.{Place}
-use Rattle.grid.specs.declared.raster.Place.TheVariants.{Nowhere, At as Square-at}
 use Rattle.grid.proofs.Pigeonhole.{pigeonhole}
 use Rattle.cover.specs.Flashes.{flashes}
 use Rattle.cover.specs.Marks.{marks}
 use Rattle.cover.proofs.MarkLaws.{marks_evidence, marks-flashes}
 use Rattle.listcheck.specs.Verdict.{bad_line, bare_square}
 use Rattle.listcheck.specs.Checked.{Given, bad_at, bare_at, sound_with, unless_bad, unless_bare, judged}
-use Rattle.listcheck.specs.Code.{bad_of}
+use Rattle.listcheck.specs.Code.{found_of}
 use Rattle.listcheck.specs.declared.entry.Checked.{Checked}
-use Rattle.listcheck.specs.declared.flash.Bad.{Bad}
-use Rattle.listcheck.specs.declared.flash.Bad.TheVariants.{None, At}
+use Rattle.std.specs.Prelude.{Option as Found, Some, None}
 use Rattle.listcheck.proofs.Sound.{covers}
 
 -- what a match tells
-pub bad-told : (o : Option ℕ) {b : Bad} {line : ℕ} → b ≡ bad_of o → b ≡ At line → o ≡ some line
+pub bad-told : (o : Option ℕ) {b : Found ℕ} {line : ℕ} → b ≡ found_of o → b ≡ Some line → o ≡ some line
 bad-told none e k = let z : ◌≡◌ {A = ℕ} 0 1 = cc in absurd (omega arith)
 bad-told (some n) {line = line} e k = let m : n ≡ line = cc in ap some m
 
-pub good-told : (o : Option ℕ) {b : Bad} → b ≡ bad_of o → b ≡ None → o ≡ none
+pub good-told : (o : Option ℕ) {b : Found ℕ} → b ≡ found_of o → b ≡ None → o ≡ none
 good-told none e k = refl
 good-told (some n) e k = let z : ◌≡◌ {A = ℕ} 0 1 = cc in absurd (omega arith)
 
-pub bare-told : (o : Option Square) {p : Place} {c : Column} {r : Row} → p ≡ place_of o → p ≡ Square-at c r → o ≡ some (square c.0 r.0)
+pub bare-told : (o : Option Square) {p : Found (Column × Row)} {c : Column} {r : Row} → p ≡ place_of o → p ≡ Some (c, r) → o ≡ some (square c.0 r.0)
 bare-told none e k = let z : ◌≡◌ {A = ℕ} 0 1 = cc in absurd (omega arith)
 bare-told (some s) {c = c} {r = r} e k =
-    let x : column s.column ≡ c = cc in
-    let y : row s.row ≡ r = cc in
-    λ i. some (square (x i).0 (y i).0)
+    let m : ◌≡◌ {A = Column × Row} (column s.column, row s.row) (c, r) = cc in
+    λ i. some (square (m i).0.0 (m i).1.0)
 
-pub held-told : (o : Option Square) {p : Place} → p ≡ place_of o → p ≡ Nowhere → o ≡ none
+pub held-told : (o : Option Square) {p : Found (Column × Row)} → p ≡ place_of o → p ≡ None → o ≡ none
 held-told none e k = refl
 held-told (some s) e k = let z : ◌≡◌ {A = ℕ} 0 1 = cc in absurd (omega arith)
 

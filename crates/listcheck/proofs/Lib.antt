@@ -9,7 +9,6 @@ pub mod Determined
 pub mod Onward
 pub mod Turns
 pub mod Good
-pub mod Chain
 pub mod Weighed
 pub mod Judged
 pub mod Refusals

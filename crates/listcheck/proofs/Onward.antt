@@ -7,8 +7,6 @@ use native.Mathlib.Omega.{arith}
 use lib.ListN.{length, length-append}
 use Rattle.grid.specs.Limits.{flash_record}
 use Rattle.grid.specs.Squares.{Rectangle}
-use Rattle.text.specs.declared.read.Next.{Next}
-use Rattle.text.specs.declared.read.Next.TheVariants.{Spot, Nothing as NoLine}
 use Rattle.text.specs.Line.{line, fields, line_numbers, line_at, numbers_left, ReadLine}
 use Rattle.text.proofs.Passes.{passes-inside}
 use Rattle.text.proofs.Lines.{whole-ruled}
@@ -17,24 +15,28 @@ use Rattle.printed.specs.Printed.{flash_word}
 use Rattle.cover.specs.Code.{rectangle_of}
 use Rattle.cover.specs.Records.{flash_of}
 use Rattle.cover.specs.declared.flashes.Flash.{Flash}
-use Rattle.listcheck.specs.FlashList.{flash_line_at, flash_said, said_then, flashes_from, end_then, end_from, flashes_at, end_at}
-use Rattle.listcheck.specs.Code.{flash_is, said_of}
-use Rattle.listcheck.specs.declared.lines.Said.{Said}
-use Rattle.listcheck.specs.declared.lines.Said.TheVariants.{Flash as FlashLine, Nothing}
+use Rattle.listcheck.specs.FlashList.{flash_line_at, flash_said, said_then, flashes_from, end_then, end_from, flashes_at, flashes_of, end_at}
+use Rattle.listcheck.specs.Code.{flash_is, said_of, lines_of}
+use Rattle.listcheck.specs.declared.lines.Flashes.{Flashes}
+use Rattle.listcheck.specs.declared.lines.Lines.{Lines}
+use Rattle.std.specs.Iterator.{YieldsFirstBy}
+use Rattle.std.proofs.lemmas.Iterator.{YieldsList}
+use Rattle.std.proofs.lemmas.Iterator.Consumers.{YieldsList-from_first}
+use Rattle.std.specs.Prelude.{Option, Some, None}
 
 -- the two cases of a line
-ncase {ℓ} : {C : Type ℓ} (x : Next) → ((j : ℕ) → x ≡ Spot j → C) → (x ≡ NoLine → C) → C
-ncase (Spot j) s n = s j refl
-ncase NoLine s n = n refl
+ncase {ℓ} : {C : Type ℓ} (x : Option ℕ) → ((j : ℕ) → x ≡ Some j → C) → (x ≡ None → C) → C
+ncase (Some j) s n = s j refl
+ncase None s n = n refl
 
 -- what `read_flash` answered, as a line
-pub said-flash : (x : Next) (q : Rectangle) {r : Said} {f : Flash} {next : ℕ} → r ≡ said_of x q → r ≡ FlashLine f next → (x ≡ Spot next) × (f ≡ flash_is q)
-said-flash (Spot j) q {f = f} {next = next} e k = let m : FlashLine (flash_is q) j ≡ FlashLine f next = sym e ∙ k in (cc, cc)
-said-flash NoLine q e k = let z : ◌≡◌ {A = ℕ} 0 1 = cc in absurd (omega arith)
+pub said-flash : (x : Option ℕ) (q : Rectangle) {r : Option (Flash × ℕ)} {f : Flash} {next : ℕ} → r ≡ said_of x q → r ≡ Some (f, next) → (x ≡ Some next) × (f ≡ flash_is q)
+said-flash (Some j) q {f = f} {next = next} e k = let m : ◌≡◌ {A = Flash × ℕ} (flash_is q, j) (f, next) = cc in (ap (λ (p : Flash × ℕ). Some p.1) m, ap (λ (p : Flash × ℕ). p.0) (sym m))
+said-flash None q e k = let z : ◌≡◌ {A = ℕ} 0 1 = cc in absurd (omega arith)
 
-pub said-nothing : (x : Next) (q : Rectangle) {r : Said} → r ≡ said_of x q → r ≡ Nothing → x ≡ NoLine
-said-nothing (Spot j) q e k = let z : ◌≡◌ {A = ℕ} 0 1 = cc in absurd (omega arith)
-said-nothing NoLine q e k = refl
+pub said-nothing : (x : Option ℕ) (q : Rectangle) {r : Option (Flash × ℕ)} → r ≡ said_of x q → r ≡ None → x ≡ None
+said-nothing (Some j) q e k = let z : ◌≡◌ {A = ℕ} 0 1 = cc in absurd (omega arith)
+said-nothing None q e k = refl
 
 module _ (text : List ℕ) where
   long : (spot : ℕ) → 5 ≤ length (line flash_word (line_numbers text spot flash_word flash_record))
@@ -42,7 +44,7 @@ module _ (text : List ℕ) where
   long spot = let ns : List ℕ = line_numbers text spot flash_word flash_record in omega (arith, length-append flash_word (fields ns))
 
   -- a line goes on, and ends inside the text
-  pub onward : (spot : ℕ) {next : ℕ} → flash_line_at text spot ≡ Spot next → (spot + 5 ≤ next) × (next ≤ length text)
+  pub onward : (spot : ℕ) {next : ℕ} → flash_line_at text spot ≡ Some next → (spot + 5 ≤ next) × (next ≤ length text)
   unfolding flash_line_at
   onward spot e =
       let r = whole-ruled text spot flash_word number_limit flash_record e in
@@ -50,21 +52,21 @@ module _ (text : List ℕ) where
       (omega (arith, r.there.past), passes-inside text spot (line flash_word (line_numbers text spot flash_word flash_record)) (omega arith) r.there)
 
   -- one line of a bounded number
-  flashes-stop : (n spot : ℕ) → flash_line_at text spot ≡ NoLine → flashes_from n text spot ≡ []
+  flashes-stop : (n spot : ℕ) → flash_line_at text spot ≡ None → flashes_from n text spot ≡ []
   unfolding flashes_from
   flashes-stop zero spot e = refl
   flashes-stop (suc n) spot e = ap (λ x. said_then x (flash_said text spot) (flashes_from n text)) e
 
-  flashes-on : (n spot : ℕ) {next : ℕ} → flash_line_at text spot ≡ Spot next → flashes_from (suc n) text spot ≡ flash_said text spot ∷ flashes_from n text next
+  flashes-on : (n spot : ℕ) {next : ℕ} → flash_line_at text spot ≡ Some next → flashes_from (suc n) text spot ≡ flash_said text spot ∷ flashes_from n text next
   unfolding flashes_from
   flashes-on n spot e = ap (λ x. said_then x (flash_said text spot) (flashes_from n text)) e
 
-  end-stop : (n spot : ℕ) → flash_line_at text spot ≡ NoLine → end_from n text spot ≡ spot
+  end-stop : (n spot : ℕ) → flash_line_at text spot ≡ None → end_from n text spot ≡ spot
   unfolding end_from
   end-stop zero spot e = refl
   end-stop (suc n) spot e = ap (λ x. end_then x spot (end_from n text)) e
 
-  end_on : (n spot : ℕ) {next : ℕ} → flash_line_at text spot ≡ Spot next → end_from (suc n) text spot ≡ end_from n text next
+  end_on : (n spot : ℕ) {next : ℕ} → flash_line_at text spot ≡ Some next → end_from (suc n) text spot ≡ end_from n text next
   unfolding end_from
   end_on n spot e = ap (λ x. end_then x spot (end_from n text)) e
 
@@ -101,13 +103,13 @@ module _ (text : List ℕ) where
 
   -- so of what is left from a spot on
   module _ (spot : ℕ) where
-    pub rest-stop : flash_line_at text spot ≡ NoLine → flashes_at text spot ≡ []
+    pub rest-stop : flash_line_at text spot ≡ None → flashes_at text spot ≡ []
     rest-stop e = flashes-stop (length text - spot) spot e
 
-    pub stops_end : flash_line_at text spot ≡ NoLine → end_at text spot ≡ spot
+    pub stops_end : flash_line_at text spot ≡ None → end_at text spot ≡ spot
     stops_end e = end-stop (length text - spot) spot e
 
-    module _ {next : ℕ} (e : flash_line_at text spot ≡ Spot next) where
+    module _ {next : ℕ} (e : flash_line_at text spot ≡ Some next) where
       one_less : length text - spot ≡ suc (length text - suc spot)
       one_less = let o = onward spot e in omega arith
 
@@ -146,8 +148,8 @@ module _ (text : List ℕ) where
     pub further : spot + 5 ≤ next
     pub inside : next ≤ length text
 
-  module _ (spot : ℕ) {r : Said} (e : r ≡ said_of (flash_line_at text spot) (flash_said text spot)) where
-    pub turn : {f : Flash} {next : ℕ} → r ≡ FlashLine f next → Turn spot f next
+  module _ (spot : ℕ) {r : Option (Flash × ℕ)} (e : r ≡ said_of (flash_line_at text spot) (flash_said text spot)) where
+    pub turn : {f : Flash} {next : ℕ} → r ≡ Some (f, next) → Turn spot f next
     turn {f} {next} k =
         let s = said-flash (flash_line_at text spot) (flash_said text spot) e k in
         let o = onward spot s.0 in
@@ -159,20 +161,34 @@ module _ (text : List ℕ) where
         }
 
     -- and where no line stands, nothing is left
-    pub over : r ≡ Nothing → (flashes_at text spot ≡ []) × (end_at text spot ≡ spot)
+    pub over : r ≡ None → (flashes_at text spot ≡ []) × (end_at text spot ≡ spot)
     over k = let n = said-nothing (flash_line_at text spot) (flash_said text spot) e k in (rest-stop spot n, stops_end spot n)
 
   -- the numbers that `read_line` leaves are the flash of the line
-  pub flash-read : (spot : ℕ) {r : Next} {left : List ℕ} {next : ℕ} → ReadLine text spot flash_word number_limit (0 ∷ 0 ∷ 0 ∷ 0 ∷ []) r left → r ≡ Spot next
-      → FlashLine (flash_is (flash_of left)) next ≡ said_of (flash_line_at text spot) (flash_said text spot)
+  pub flash-read : (spot : ℕ) {r : Option ℕ} {left : List ℕ} {next : ℕ} → ReadLine text spot flash_word number_limit (0 ∷ 0 ∷ 0 ∷ 0 ∷ []) r left → r ≡ Some next
+      → ◌≡◌ {A = Option (Flash × ℕ)} (Some (flash_is (flash_of left), next)) (said_of (flash_line_at text spot) (flash_said text spot))
   unfolding flash_line_at flash_said
   flash-read spot {next = next} l k =
-      let e : line_at text spot flash_word number_limit flash_record ≡ Spot next = sym l.past ∙ k in
+      let e : line_at text spot flash_word number_limit flash_record ≡ Some next = sym l.past ∙ k in
       let same = l.left ∙ ap (λ x. numbers_left x (line_numbers text spot flash_word flash_record)) e in
-      ap (λ ns. FlashLine (flash_is (flash_of ns)) next) same
+      ap (λ ns. Some (flash_is (flash_of ns), next)) same
       ∙ sym (ap (λ x. said_of x (flash_of (line_numbers text spot flash_word flash_record))) e)
 
-  pub none_read : (spot : ℕ) {r : Next} {left : List ℕ} → ReadLine text spot flash_word number_limit (0 ∷ 0 ∷ 0 ∷ 0 ∷ []) r left → r ≡ NoLine
-      → Nothing ≡ said_of (flash_line_at text spot) (flash_said text spot)
+  pub none_read : (spot : ℕ) {r : Option ℕ} {left : List ℕ} → ReadLine text spot flash_word number_limit (0 ∷ 0 ∷ 0 ∷ 0 ∷ []) r left → r ≡ None
+      → None ≡ said_of (flash_line_at text spot) (flash_said text spot)
   unfolding flash_line_at flash_said
   none_read spot l k = sym (ap (λ x. said_of x (flash_of (line_numbers text spot flash_word flash_record))) (sym l.past ∙ k))
+
+-- a chain over the flashes of a list gives each of them
+pub flashes-come : {s : Flashes} (qs : List Rectangle) → flashes_at s.text.now s.spot ≡ qs → YieldsList (YieldsFirstBy rectangle_of (λ (f : Flashes). flashes_at f.text.now f.spot)) rectangle_of s qs
+flashes-come qs e = YieldsList-from_first rectangle_of (λ (f : Flashes). flashes_at f.text.now f.spot) qs e
+
+-- and no more of them come than the text has bytes
+pub flashes-few : (s : Flashes) (text : List ℕ) → flashes_at s.text.now s.spot ≡ flashes_of text → length (flashes_at s.text.now s.spot) ≤ length text
+unfolding flashes_of
+flashes-few s text e = let i = ends-inside text (length text - 0) 0 (omega arith) in omega (arith, ap length e, i.0, i.1)
+
+-- so one line more than those that are as ruled can be counted
+pub count_fits : (text : List ℕ) (l : Lines) → l ≡ lines_of text → l.count ≤ length text
+unfolding flashes_of
+count_fits text l e = let i = ends-inside text (length text - 0) 0 (omega arith) in omega (arith, ap (λ (x : Lines). x.count) e, i.0, i.1)

@@ -1,37 +1,35 @@
 -- Every list that our own program prints is sound with none above: the flash lines of a cover's print are read as the cover's own flashes.
 -- A printed line is read as its numbers (text); line after line, what is left to read is what is left of the records. The flashes are a least cover.
-use mathlib.Core.Path.{◌≡◌, refl, sym, ap, ap₂, ◌∙◌}
+use mathlib.Core.Path.{◌≡◌, refl, sym, ap, ◌∙◌}
 use mathlib.Core.Bool.{true, ◌&&◌}
 use mathlib.Core.List.Memᴰ
-use mathlib.Core.List.{List, [], ◌∷◌, ◌++◌, map, append_assoc}
+use mathlib.Core.List.{List, [], ◌∷◌, ◌++◌, append_assoc}
 use mathlib.Core.Logic.{inl}
 use mathlib.Core.Option.{none}
-use Prim.Native.Nat.{ℕ, suc, ◌+◌, ◌-◌, ◌*◌, ◌≤◌}
+use Prim.Native.Nat.{ℕ, ◌+◌, ◌-◌, ◌*◌, ◌≤◌}
 use native.Mathlib.Nat.{mul-le-mul_right, zero-add}
 use native.Mathlib.Omega.{arith}
 use lib.Dec.{leb}
 use lib.ListN.{length, drop, length-append, length-drop}
-use lib.Seq.{drop-append_seam, drop-drop, length-take-le}
+use lib.Seq.{drop-append_seam, drop-drop}
 use borrow.Author.Tests.{eq-eqb, le-leb}
-use Rattle.lists.specs.Lists.{gather, up_to}
+use Rattle.lists.specs.Lists.{gather}
 use Rattle.lists.proofs.Truth.{and_both}
 use Rattle.lists.proofs.Members.{In}
-use Rattle.lists.proofs.Ranges.{from_in}
 use Rattle.grid.specs.Limits.{side, flash_record, mark_room_size, allowance_limit, list_limit}
 use Rattle.grid.specs.Answers.{first_refusal, mark_room_short, allowance_out, bad_list_line, list_long}
 use Rattle.grid.specs.Squares.{Area, InGrid, Rectangle, Unbroken}
 use Rattle.grid.specs.Raster.{area_of}
-use Rattle.grid.specs.Rooms.{record_in}
 use Rattle.grid.specs.declared.answers.Answer.{Answer}
 use Rattle.grid.proofs.Areas.{area_in_grid}
 use Rattle.grid.proofs.Chain.{Passes, Each, pcase, chain-passed, passed-chain, passed-check}
 use Rattle.grid.proofs.Writing.{from_start}
-use Rattle.text.specs.Line.{line, within, record_lines}
-use Rattle.text.specs.declared.read.Next.TheVariants.{Spot}
+use Rattle.text.specs.Line.{line, within}
+use Rattle.std.specs.Prelude.{Some}
 use Rattle.text.proofs.Lines.{Ruled, ruled-whole, ruled-numbers}
 use Rattle.job.specs.JobText.{number_limit}
 use Rattle.cover.specs.Flashes.{flashes}
-use Rattle.cover.specs.Records.{flash_bytes, flash_of, flash_in, flashes_in}
+use Rattle.cover.specs.Records.{flash_bytes, flash_of, flashes_in}
 use Rattle.cover.specs.Cover as Cover
 use Rattle.cover.specs.declared.entry.Outcome.{Outcome}
 use Rattle.cover.proofs.Covering.{flash-copper, flash-fits, flashes-short, flashes-cover}
@@ -40,6 +38,7 @@ use Rattle.cover.proofs.Refusals.{refuses}
 use Rattle.cover.proofs.Demand2.{demand-2}
 use Rattle.cover.proofs.Demand3.{only-asked}
 use Rattle.cover.proofs.Rooms.{rooms_kept}
+use Rattle.printed.proofs.Ruled.{flash-lines}
 use Rattle.printed.specs.Printed.{flash_word, cover_line, flash_lines, mark_lines, printed, Prints}
 use Rattle.listcheck.specs.FlashList.{flash_line_at, flash_said, flashes_at, end_at, flashes_of, line_not_ruled, flashes_from, end_from}
 use Rattle.listcheck.specs.Checked.{Given, sound, sound_with, judged, check_line, checks, check_gives, Gives}
@@ -68,7 +67,7 @@ module _ (text : List ℕ) (spot : ℕ) (q : Rectangle) (rest : List ℕ) (small
   ruled : Ruled text spot flash_word number_limit (flash_bytes q) (spot + length (flash_line q))
   ruled = record { small = small; there = record { past = refl; there = e ∙ ap (flash_line q ++◌) (sym left_over) } }
 
-  pub line-there : flash_line_at text spot ≡ Spot (spot + length (flash_line q))
+  pub line-there : flash_line_at text spot ≡ Some (spot + length (flash_line q))
   unfolding flash_line_at
   line-there = ruled-whole text spot flash_word number_limit (flash_bytes q) ruled
 
@@ -107,29 +106,6 @@ module _ (qs : List Rectangle) (small : (q : Rectangle) → In q qs → Small q)
   unfolding line_not_ruled
   all-ruled = rw (eq-eqb (end_at (list_text qs) 0) (length (list_text qs)) read_whole.1)
 
--- the flash lines of a print are those of the records
-four : (r : List ℕ) → length r ≡ flash_record → r ≡ flash_bytes (flash_of r)
-four [] e = absurd (omega arith)
-four (a ∷ []) e = absurd (omega arith)
-four (a ∷ b ∷ []) e = absurd (omega arith)
-four (a ∷ b ∷ c ∷ []) e = absurd (omega arith)
-four (a ∷ b ∷ c ∷ d ∷ []) e = refl
-four (a ∷ b ∷ c ∷ d ∷ x ∷ xs) e = absurd (omega arith)
-
-lines_records : (f ks : List ℕ) → ((k : ℕ) → In k ks → suc k * flash_record ≤ length f)
-    → gather (λ k. line flash_word (record_in flash_record f k)) ks ≡ list_text (map (flash_in f) ks)
-lines_records f [] h = refl
-lines_records f (k ∷ ks) h =
-    let u : flash_record ≤ length (drop (k * flash_record) f) = omega (arith, h k (Memᴰ.head refl), length-drop (k * flash_record) f) in
-    ap₂ ◌++◌ (ap (line flash_word) (four (record_in flash_record f k) (length-take-le flash_record (drop (k * flash_record) f) u))) (lines_records f ks (λ j m. h j (Memᴰ.tail m)))
-
-pub print_list : (n : ℕ) (f : List ℕ) → n * flash_record ≤ length f → flash_lines n f ≡ list_text (flashes_in n f)
-unfolding record_lines flashes_in
-print_list n f h = lines_records f (up_to n) (λ k m.
-    let r = from_in 0 n m in
-    let l : suc k * flash_record ≤ n * flash_record = mul-le-mul_right flash_record (omega arith) in
-    omega arith)
-
 -- our flashes have small numbers
 module _ (a : Area) (w h : ℕ) (grid : InGrid w h a) (unbroken : Unbroken a) (narrow : w ≤ side) (low : h ≤ side) where
   ours_small : (q : Rectangle) → In q (flashes a w h) → Small q
@@ -167,7 +143,7 @@ module _ (w h k : ℕ) (raster f m : List ℕ) (o : Outcome) (f' m' : List ℕ) 
       let d = demand-2 w h k raster f m o f' m' gives e in
       let many : o.flashes ≤ side = omega (arith, d.flash-count, flashes-short (area_of w h raster) w h, q.wide) in
       let room : o.flashes * flash_record ≤ side * flash_record = mul-le-mul_right flash_record many in
-      print_list o.flashes f' (omega (arith, (rooms_kept w h k raster f m o f' m' gives).0.as_long, q.flashes-fit)) ∙ ap list_text ruled-flashes
+      flash-lines o.flashes f' (omega (arith, (rooms_kept w h k raster f m o f' m' gives).0.as_long, q.flashes-fit)) ∙ ap list_text ruled-flashes
 
   -- where they stand among the bytes that `print_outcome` leaves: behind the line of the cover, before those of the marks
   pub own-bytes : (out : List ℕ) (n : ℕ) (out' : List ℕ) → Prints o f' m' out n out'

@@ -1,4 +1,4 @@
--- The checks as the code makes them, in three parts, are the chain: what a call gives is the first answer that refuses, or the verdict.
+-- The checks as the code makes them, in three parts, are the chain: what a call gives is the first refusal, or the verdict.
 -- The cover's checks are asked with the room that they want for flashes, so that one never refuses. From the chain's laws (grid); the entry point uses it.
 use mathlib.Core.Path.{◌≡◌, refl, sym, ap, ◌∙◌}
 use mathlib.Core.List.{List, [], ◌∷◌, ◌++◌}
@@ -7,15 +7,19 @@ use lib.Dec.{leb}
 use lib.ListN.{length}
 use borrow.Author.Tests.{eq-eqb, ne_eqb}
 use Rattle.grid.specs.Limits.{allowance_limit, flash_room_size, mark_room_size}
-use Rattle.grid.specs.Answers.{check, or_else, first_refusal, size_out, raster_length, mark_room_short, allowance_out}
+use Rattle.std.specs.Prelude.{Result, Ok, Err}
+use Rattle.grid.specs.Answers.{done, check, or_else, first_refusal, answer_of, answered, size_out, raster_length, mark_room_short, allowance_out}
 use Rattle.grid.specs.Raster.{size_fits, length_fits, area_of}
 use Rattle.grid.specs.declared.answers.Answer.{Answer}
-use Rattle.grid.proofs.Chain.{Passes, stands, gives_way, chain-append}
+use Rattle.grid.specs.declared.answers.Refusal.{Refusal}
+use Rattle.grid.specs.declared.raster.Raster.{Raster}
+use denote.Ref.{Bor}
+use Rattle.grid.proofs.Chain.{Passes, chain-stops, chain-goes-on}
+use Rattle.grid.proofs.Refusals.{refuses as numbered}
 use Rattle.columns.specs.Columns.{raster_checks}
 use Rattle.cover.specs.Code.{size_checks}
 use Rattle.listcheck.specs.FlashList.{flashes_of}
-use Rattle.listcheck.specs.Checked.{Given, refused_at, judged, list_checks, or_verdict, check_gives, Gives}
-use Rattle.listcheck.specs.declared.entry.Checked.{Checked}
+use Rattle.listcheck.specs.Checked.{Given, refused_at, judged, list_checks, checks, or_verdict, check_gives, Gives}
 
 module _ (a : Answer) (m : List ℕ) (verdict : Given) where
   pub refuses : (Passes a → ⊥) → or_verdict a m verdict ≡ refused_at a m
@@ -38,39 +42,50 @@ sizes-same : (w h k n m : ℕ) → first_refusal (size_checks w h k n flash_room
 unfolding first_refusal or_else
 sizes-same w h k n m = refl
 
-module _ (w h k : ℕ) (raster list m : List ℕ) {a : Answer} (sizes : a ≡ first_refusal (size_checks w h k (length raster) flash_room_size (length m))) where
-  in_parts : check_gives w h k raster list m
-      ≡ or_verdict (or_else a (or_else (first_refusal (raster_checks w h raster)) (first_refusal (list_checks list)))) m (judged (area_of w h raster) w h (flashes_of list) m)
+module _ (w h k : ℕ) (raster list m : List ℕ) where
+  abbrev later : List Answer
+  later = raster_checks w h raster ++ list_checks list
+
+  abbrev sizes : List Answer
+  sizes = job_sizes w h k (length raster) (length m)
+
+  gives-refused : (r : Refusal) → answer_of r ≡ first_refusal (checks w h k raster list m) → Gives w h k raster list m (refused_at (answer_of r) []).outcome m
   unfolding check_gives
-  in_parts =
-      ap (λ z. or_verdict z m (judged (area_of w h raster) w h (flashes_of list) m))
-      (chain-append (job_sizes w h k (length raster) (length m)) (raster_checks w h raster ++ list_checks list)
-      ∙ ap (λ z. or_else z (first_refusal (raster_checks w h raster ++ list_checks list))) (sym (sizes ∙ sizes-same w h k (length raster) (length m)))
-      ∙ ap (or_else a) (chain-append (raster_checks w h raster) (list_checks list)))
+  gives-refused r e =
+      let j = judged (area_of w h raster) w h (flashes_of list) m in
+      sym (ap (λ a. or_verdict a m j) (sym e) ∙ refuses (answer_of r) m j (numbered r))
 
-  pub gives-first : {r : Checked} → (Passes a → ⊥) → r ≡ (refused_at a []).outcome → Gives w h k raster list m r m
-  gives-first n e =
-      (λ i. record { outcome = e i; marks_after = m })
-      ∙ sym (in_parts ∙ ap (λ z. or_verdict z m (judged (area_of w h raster) w h (flashes_of list) m)) (stands a _ n) ∙ refuses a m _ n)
+  gives-passed : {g : Given} → done ≡ first_refusal (checks w h k raster list m) → g ≡ judged (area_of w h raster) w h (flashes_of list) m → g ≡ check_gives w h k raster list m
+  unfolding check_gives
+  gives-passed e g =
+      let j = judged (area_of w h raster) w h (flashes_of list) m in
+      g ∙ sym (ap (λ a. or_verdict a m j) (sym e) ∙ passes done m j refl)
 
-  module _ (pass : Passes a) {b : Answer} (bytes : b ≡ first_refusal (raster_checks w h raster)) where
-    second : check_gives w h k raster list m ≡ or_verdict (or_else b (first_refusal (list_checks list))) m (judged (area_of w h raster) w h (flashes_of list) m)
-    second =
-        in_parts
-        ∙ ap (λ z. or_verdict z m (judged (area_of w h raster) w h (flashes_of list) m))
-        (gives_way a _ pass ∙ ap (λ z. or_else z (first_refusal (list_checks list))) (sym bytes))
+  module _ {T : Type 0} (x : Result T Refusal) (first : answered x ≡ first_refusal (size_checks w h k (length raster) flash_room_size (length m))) where
+    sized : answered x ≡ first_refusal sizes
+    sized = first ∙ sizes-same w h k (length raster) (length m)
 
-    pub gives-second : {r : Checked} → (Passes b → ⊥) → r ≡ (refused_at b []).outcome → Gives w h k raster list m r m
-    gives-second n e =
-        (λ i. record { outcome = e i; marks_after = m })
-        ∙ sym (second ∙ ap (λ z. or_verdict z m (judged (area_of w h raster) w h (flashes_of list) m)) (stands b _ n) ∙ refuses b m _ n)
+    pub sizes-refuse : {r : Refusal} → x ≡ Err r → Gives w h k raster list m (refused_at (answer_of r) []).outcome m
+    sizes-refuse q = gives-refused _ (chain-stops sizes later sized q)
 
-    module _ (through : Passes b) {c : Answer} (ruled : c ≡ first_refusal (list_checks list)) where
-      third : check_gives w h k raster list m ≡ or_verdict c m (judged (area_of w h raster) w h (flashes_of list) m)
-      third = second ∙ ap (λ z. or_verdict z m (judged (area_of w h raster) w h (flashes_of list) m)) (gives_way b _ through ∙ sym ruled)
+    module _ {t : T} (fits : x ≡ Ok t) (y : Result (Unit {0}) Refusal) (second : answered y ≡ first_refusal (raster_checks w h raster)) where
+      past_sizes : first_refusal (checks w h k raster list m) ≡ first_refusal later
+      past_sizes = chain-goes-on sizes later sized fits
 
-      pub gives-third : {r : Checked} → (Passes c → ⊥) → r ≡ (refused_at c []).outcome → Gives w h k raster list m r m
-      gives-third n e = (λ i. record { outcome = e i; marks_after = m }) ∙ sym (third ∙ refuses c m _ n)
+      pub raster-refuses : {r : Refusal} → y ≡ Err r → Gives w h k raster list m (refused_at (answer_of r) []).outcome m
+      raster-refuses q = gives-refused _ (chain-stops (raster_checks w h raster) (list_checks list) second q ∙ sym past_sizes)
 
-      pub gives-judged : {g : Given} → Passes c → g ≡ judged (area_of w h raster) w h (flashes_of list) m → g ≡ check_gives w h k raster list m
-      gives-judged n e = e ∙ sym (third ∙ passes c m _ n)
+      module _ {u : Unit {0}} (whole : y ≡ Ok u) (z : Result ℕ Refusal) (third : answered z ≡ first_refusal (list_checks list)) where
+        past_raster : first_refusal (checks w h k raster list m) ≡ first_refusal (list_checks list)
+        past_raster = past_sizes ∙ chain-goes-on (raster_checks w h raster) (list_checks list) second whole
+
+        pub list-refuses : {r : Refusal} → z ≡ Err r → Gives w h k raster list m (refused_at (answer_of r) []).outcome m
+        list-refuses q = gives-refused _ (sym (ap answered q) ∙ third ∙ sym past_raster)
+
+        pub gives-judged : {n : ℕ} {g : Given} → z ≡ Ok n → g ≡ judged (area_of w h raster) w h (flashes_of list) m → g ≡ check_gives w h k raster list m
+        gives-judged q e = gives-passed (sym (ap answered q) ∙ third ∙ sym past_raster) e
+
+-- what is said of a raster is said of its width, its height and its bytes
+pub of-raster : {w h : ℕ} (r : Raster) {b : Bor (List ℕ)} {a : Answer} → (r.size.width ≡ w) × (r.size.height ≡ h) × (r.bytes ≡ b)
+    → a ≡ first_refusal (raster_checks r.size.width r.size.height r.bytes.now) → a ≡ first_refusal (raster_checks w h b.now)
+of-raster r s e = e ∙ (λ i. first_refusal (raster_checks (s.0 i) (s.1 i) ((s.2 i).now)))

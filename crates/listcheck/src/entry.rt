@@ -1,23 +1,23 @@
 // The entry point: the job is checked as for the cover, then the list's lines, then the list is judged.
-ghost use Rattle.std.specs.Prelude.{◌≡◌, [], ◌≤◌, length};
+ghost use Rattle.std.specs.Prelude.{◌≡◌, [], ◌≤◌, length, IfOk};
 ghost use Rattle.grid.specs.Limits.{mark_room_size};
-ghost use Rattle.grid.specs.Answers.{first_refusal};
-ghost use Rattle.grid.specs.Squares.{square, Unbroken};
-ghost use Rattle.grid.specs.Code.{Sized, area_in};
+ghost use Rattle.grid.specs.Answers.{answer_of, answered, first_refusal};
+ghost use Rattle.grid.specs.Squares.{Unbroken};
+ghost use Rattle.grid.specs.Code.{area_in};
 ghost use Rattle.cover.specs.Flashes as Flashes;
 ghost use Rattle.listcheck.specs.FlashList.{flashes_of};
-ghost use Rattle.listcheck.specs.Checked.{refused_at, bad_at, bare_at, sound_with, judged, list_checks, Gives};
-ghost use Rattle.listcheck.specs.Code.{lines_of};
+ghost use Rattle.listcheck.specs.Checked.{refused_at, sound_with, judged, list_checks, Gives};
+ghost use Rattle.listcheck.specs.Code.{checked_of, told_of, given_of};
 
 use crate::bare::bare_square;
-use crate::flash::{Bad, bad_line};
-use crate::lines::{Lines, count_lines};
+use crate::flash::bad_line;
+use crate::lines::count_lines;
 use cover::entry::{cover_area, raster_checked, sizes_checked};
-use grid::answers::Answer;
+use grid::answers::{DONE, Refusal, check};
+use grid::limits;
 use grid::lines::{Column, Row};
-use grid::raster::{Job, Place, Size};
-use grid::{answers, limits};
-use intervals::final_set::Search;
+use grid::raster::Raster;
+use intervals::final_set::Swept;
 
 #[repr(C)]
 #[derive(Clone, Copy)]
@@ -38,95 +38,136 @@ pub const BAD: u64 = 2;
 
 pub const BARE: u64 = 3;
 
-fn refused(a: Answer) -> Checked
-    ensures { result ≡ (refused_at a []).outcome }
-{
-    Checked {
-        answer: a.number,
-        place_x: a.x,
-        place_y: a.y,
-        verdict: 0,
-        flashes: 0,
-        above: 0,
-        marks: 0,
+// The verdict on a list: bad, by the line of its first bad flash; or bare, by its first bare square; or sound.
+#[derive(Clone, Copy, Debug, PartialEq, Eq)]
+enum Verdict {
+    Bad(usize),
+    Bare(Column, Row),
+    Sound { above: u64, marks: u64 },
+}
+
+impl Verdict {
+    // As the call tells it of a list of so many flashes.
+    fn told(self, count: usize) -> Checked
+        ensures { result ≡ told_of self count }
+    {
+        let untold = Checked {
+            answer: DONE,
+            place_x: 0,
+            place_y: 0,
+            verdict: 0,
+            flashes: count as u64,
+            above: 0,
+            marks: 0,
+        };
+        match self {
+            Verdict::Bad(line) => Checked {
+                verdict: BAD,
+                place_x: line as u64,
+                ..untold
+            },
+            Verdict::Bare(column, row) => Checked {
+                verdict: BARE,
+                place_x: column.0 as u64,
+                place_y: row.0 as u64,
+                ..untold
+            },
+            Verdict::Sound { above, marks } => Checked {
+                verdict: SOUND,
+                above,
+                marks,
+                ..untold
+            },
+        }
     }
 }
 
-fn bad(count: usize, line: usize) -> Checked
-    ensures { result ≡ (bad_at count line []).outcome }
-{
-    Checked {
-        answer: answers::DONE,
-        place_x: line as u64,
-        place_y: 0,
-        verdict: BAD,
-        flashes: count as u64,
-        above: 0,
-        marks: 0,
+// A refusal has no verdict and no count.
+impl From<Refusal> for Checked {
+    ghost from_gives = { λ r c. c ≡ (refused_at (answer_of r) []).outcome };
+
+    fn from(refusal: Refusal) -> Checked
+        ensures { result ≡ (refused_at (answer_of refusal) []).outcome }
+    {
+        let answer = refusal.answer();
+        Checked {
+            answer: answer.number,
+            place_x: answer.x,
+            place_y: answer.y,
+            verdict: 0,
+            flashes: 0,
+            above: 0,
+            marks: 0,
+        }
     }
 }
 
-fn bare(count: usize, column: Column, row: Row) -> Checked
-    ensures { result ≡ (bare_at count (square column.0 row.0) []).outcome }
+// The checks of the list, 16 and 17, and how many flashes it has.
+#[tactic(auto, using(crate::proofs::Onward::count_fits), unfolding(grid::specs::Answers::first_refusal, grid::specs::Answers::or_else, crate::specs::FlashList::line_not_ruled))]
+fn list_checked(list: &[u8]) -> Result<usize, Refusal>
+    ensures value { answered result ≡ first_refusal (list_checks list.now) }
+    ensures count { IfOk result (λ n. n ≡ length (flashes_of list.now)) }
 {
-    Checked {
-        answer: answers::DONE,
-        place_x: column.0 as u64,
-        place_y: row.0 as u64,
-        verdict: BARE,
-        flashes: count as u64,
-        above: 0,
-        marks: 0,
-    }
-}
-
-// The checks of the list: 16, 17.
-fn list_checked(list: &[u8], lines: Lines) -> Answer
-    requires { lines ≡ lines_of list.now }
-    ensures { result ≡ first_refusal (list_checks list.now) }
-{
-    if lines.end != list.len() {
-        return Answer::at(answers::BAD_LIST_LINE, lines.count as u64 + 1, 0);
-    }
-    Answer::done().unless(lines.count <= limits::LIST_LIMIT, answers::LIST_LONG)
+    let lines = count_lines(list);
+    check(
+        lines.end == list.len(),
+        Refusal::BadListLine(lines.count + 1),
+    )?;
+    check(lines.count <= limits::LIST_LIMIT, Refusal::ListLong)?;
+    Ok(lines.count)
 }
 
 // A sound list of so many flashes: how many it has above the least, and our marks.
-fn weigh(size: Size, raster: &[u8], count: usize, mark_room: &mut [u8]) -> Checked
-    requires sized { Sized size raster.now × Unbroken (area_in size raster.now) }
-    requires height_len_bound { (length (Flashes.flashes (area_in size raster.now) size.width size.height) ≤ count) × (mark_room_size ≤ length mark_room.old) }
-    ensures { record { outcome = result; marks_after = mark_room.new } ≡ sound_with (area_in size raster.now) size.width size.height count mark_room.old }
+fn weigh(raster: Raster, count: usize, mark_room: &mut [u8]) -> Verdict
+    requires unbroken { Unbroken (area_in raster.size raster.bytes.now) }
+    requires enough { (length (Flashes.flashes (area_in raster.size raster.bytes.now) raster.size.width raster.size.height) ≤ count) × (mark_room_size ≤ length mark_room.old) }
+    ensures { given_of result count mark_room.new ≡ sound_with (area_in raster.entry.size raster.entry.bytes.now) raster.entry.size.width raster.entry.size.height count mark_room.old }
 {
     let mut flash_room = [0u8; limits::FLASH_ROOM];
-    let job = Job {
-        size,
-        allowance: limits::ALLOWANCE_LIMIT,
-    };
-    let least = cover_area(job, raster, &mut flash_room, mark_room, Search::Swept);
-    Checked {
-        answer: answers::DONE,
-        place_x: 0,
-        place_y: 0,
-        verdict: SOUND,
-        flashes: count as u64,
+    let least = cover_area::<Swept>(raster, limits::ALLOWANCE_LIMIT, &mut flash_room, mark_room);
+    Verdict::Sound {
         above: count as u64 - least.flashes,
         marks: least.marks,
     }
 }
 
 // The verdict on what has passed every check.
-fn judge(size: Size, raster: &[u8], list: &[u8], count: usize, mark_room: &mut [u8]) -> Checked
-    requires sized { Sized size raster.now × Unbroken (area_in size raster.now) }
+fn judge(raster: Raster, list: &[u8], count: usize, mark_room: &mut [u8]) -> Verdict
+    requires unbroken { Unbroken (area_in raster.size raster.bytes.now) }
     requires count_value { (count ≡ length (flashes_of list.now)) × (mark_room_size ≤ length mark_room.old) }
-    ensures { record { outcome = result; marks_after = mark_room.new } ≡ judged (area_in size raster.now) size.width size.height (flashes_of list.now) mark_room.old }
+    ensures { given_of result count mark_room.new ≡ judged (area_in raster.entry.size raster.entry.bytes.now) raster.entry.size.width raster.entry.size.height (flashes_of list.now) mark_room.old }
 {
-    if let Bad::At(line) = bad_line(size, raster, list) {
-        return bad(count, line);
+    if let Some(line) = bad_line(raster, list) {
+        return Verdict::Bad(line);
     }
-    if let Place::At(column, row) = bare_square(size, raster, list) {
-        return bare(count, column, row);
+    if let Some((column, row)) = bare_square(raster, list) {
+        return Verdict::Bare(column, row);
     }
-    weigh(size, raster, count, mark_room)
+    weigh(raster, count, mark_room)
+}
+
+// The job is checked as for the cover, which finds its flash room here; then the list; then the list is judged.
+fn check_list(
+    width: u64,
+    height: u64,
+    allowance: u64,
+    raster: &[u8],
+    list: &[u8],
+    mark_room: &mut [u8],
+) -> Result<Checked, Refusal>
+    ensures { Gives width height allowance raster.now list.now mark_room.old (checked_of result) mark_room.new }
+{
+    let raster = sizes_checked(
+        width,
+        height,
+        allowance,
+        raster,
+        limits::FLASH_ROOM,
+        mark_room.len(),
+    )?;
+    raster_checked(raster)?;
+    let count = list_checked(list)?;
+    Ok(judge(raster, list, count, mark_room).told(count))
 }
 
 pub fn keekaboor_check(
@@ -139,29 +180,8 @@ pub fn keekaboor_check(
 ) -> Checked
     ensures { Gives width height allowance raster.now list.now mark_room.old result mark_room.new }
 {
-    let sizes = sizes_checked(
-        width,
-        height,
-        allowance,
-        raster,
-        limits::FLASH_ROOM,
-        mark_room.len(),
-    );
-    if sizes.number != answers::DONE {
-        return refused(sizes);
+    match check_list(width, height, allowance, raster, list, mark_room) {
+        Ok(checked) => checked,
+        Err(refusal) => refusal.into(),
     }
-    let size = Size {
-        width: width as usize,
-        height: height as usize,
-    };
-    let bytes = raster_checked(size, raster);
-    if bytes.number != answers::DONE {
-        return refused(bytes);
-    }
-    let lines = count_lines(list);
-    let ruled = list_checked(list, lines);
-    if ruled.number != answers::DONE {
-        return refused(ruled);
-    }
-    judge(size, raster, list, lines.count, mark_room)
 }

@@ -12,12 +12,14 @@ use native.Mathlib.Nat.{mul-le-mul_right}
 use lib.ListN.{length, replicate, length-append}
 use Rattle.grid.specs.Limits.{side, flash_record, mark_record}
 use Rattle.grid.specs.Answers.{done, allowance_short}
+use Rattle.grid.specs.declared.answers.Answer.{Answer}
 use Rattle.cover.specs.declared.entry.Outcome.{Outcome}
 use Rattle.text.specs.Decimal.{decimal, digits}
 use Rattle.text.specs.Line.{line, record_lines, field_room, within}
 use Rattle.text.proofs.Lengths.{digits_grow, line-none, line-more, record_lines-most}
 use Rattle.printed.proofs.Forms.{print_cover, print_refused, marks-short, marks-none}
-use Rattle.printed.specs.Printed.{cover_word, flash_word, mark_word, refused_word, cover_line, refused_line, flash_lines, mark_lines, marks_after, printed, cover_line_room, flash_line_room, mark_line_room, print_room}
+use Rattle.printed.specs.Printed.{cover_word, flash_word, mark_word, refused_word, cover_line, refusal_line, refused_line}
+use Rattle.printed.specs.Printed.{flash_lines, mark_lines, marks_after, printed, cover_line_room, flash_line_room, mark_line_room, print_room}
 
 abbrev pub Bytes : List ℕ → Type 0
 Bytes f = within (2 ^ 8 - 1) f ≡ true
@@ -30,8 +32,33 @@ pub record Numbers (o : Outcome) : Type 0 where
   pub copper : o.copper < 2 ^ 64
   pub flashed : o.flashed < 2 ^ 64
 
-wide : (n : ℕ) → n < 2 ^ 64 → length (decimal n) ≤ length (decimal (2 ^ 64 - 1))
+-- a number of 64 bits has at most twenty digits
+pub wide : (n : ℕ) → n < 2 ^ 64 → length (decimal n) ≤ length (decimal (2 ^ 64 - 1))
 wide n h = digits_grow (2 ^ 64 - 1) n (omega arith)
+
+abbrev pub refusal_room : ℕ
+refusal_room = length refused_word + 3 * field_room (2 ^ 64 - 1) + 1
+
+pub refusal-line-most : (a : Answer) → a.number < 2 ^ 64 → a.x < 2 ^ 64 → a.y < 2 ^ 64 → length (refusal_line a) ≤ refusal_room
+refusal-line-most a n x y =
+    omega (
+      arith,
+      line-more refused_word a.number (a.x ∷ a.y ∷ []),
+      line-more refused_word a.x (a.y ∷ []),
+      line-more refused_word a.y [],
+      line-none refused_word,
+      wide a.number n,
+      wide a.x x,
+      wide a.y y,
+    )
+
+-- a refusal's line has room where the `cover` line and the flashes' lines have
+pub refusal-shorter : refusal_room ≤ cover_line_room + side * flash_line_room
+unfolding decimal digits
+refusal-shorter = omega arith
+
+pub refusal_most : (a : Answer) → a.number < 2 ^ 64 → a.x < 2 ^ 64 → a.y < 2 ^ 64 → length (refusal_line a) ≤ print_room
+refusal_most a n x y = omega (arith, refusal-line-most a n x y, refusal-shorter)
 
 module _ (o : Outcome) (numbers : Numbers o) where
   cover-line-most : o.flashes ≤ side → length (cover_line o) ≤ cover_line_room
@@ -46,24 +73,6 @@ module _ (o : Outcome) (numbers : Numbers o) where
         wide o.copper numbers.copper,
         wide o.flashed numbers.flashed,
       )
-
-  refused-line-most : length (refused_line o) ≤ length refused_word + 3 * field_room (2 ^ 64 - 1) + 1
-  refused-line-most =
-      omega (
-        arith,
-        line-more refused_word o.answer (o.place_x ∷ o.place_y ∷ []),
-        line-more refused_word o.place_x (o.place_y ∷ []),
-        line-more refused_word o.place_y [],
-        line-none refused_word,
-        wide o.answer numbers.answer,
-        wide o.place_x numbers.x,
-        wide o.place_y numbers.y,
-      )
-
-  -- a refusal's line has room where the `cover` line and the flashes' lines have
-  refusal-shorter : length refused_word + 3 * field_room (2 ^ 64 - 1) + 1 ≤ cover_line_room + side * flash_line_room
-  unfolding decimal digits
-  refusal-shorter = omega arith
 
   module _ (f m : List ℕ) (few-flashes : o.flashes ≤ side) (few-marks : o.marks ≤ side) (flash-bytes : Bytes f) (mark-bytes : Bytes m) where
     flashes-most : length (flash_lines o.flashes f) ≤ side * flash_line_room
@@ -90,6 +99,9 @@ module _ (o : Outcome) (numbers : Numbers o) where
         (λ e. omega (arith, ap length (marks-short o m e), marks-most))
         (λ n. omega (arith, ap length (marks-none o m n)))
 
+    refused-line-most : length (refused_line o) ≤ refusal_room
+    refused-line-most = refusal-line-most (record { number = o.answer; x = o.place_x; y = o.place_y }) numbers.answer numbers.x numbers.y
+
     -- no print is longer
     pub print_most : length (printed o f m) ≤ print_room
     print_most =
@@ -99,5 +111,13 @@ module _ (o : Outcome) (numbers : Numbers o) where
 -- and one is as long
 pub print_reached : (o : Outcome) × (f : List ℕ) × (m : List ℕ) × (o.flashes ≤ side) × (o.marks ≤ side) × (o.copper < 2 ^ 64) × (o.flashed < 2 ^ 64) × (length (printed o f m) ≡ print_room)
 unfolding printed line record_lines decimal digits
-print_reached =
-    (record { answer = 0; place_x = 0; place_y = 0; flashes = side; marks = side; copper = 2 ^ 64 - 1; flashed = 2 ^ 64 - 1 }, replicate (side * flash_record) 255, replicate (side * mark_record) 255, omega arith, omega arith, omega arith, omega arith, refl)
+print_reached = (
+  record { answer = 0; place_x = 0; place_y = 0; flashes = side; marks = side; copper = 2 ^ 64 - 1; flashed = 2 ^ 64 - 1 },
+  replicate (side * flash_record) 255,
+  replicate (side * mark_record) 255,
+  omega arith,
+  omega arith,
+  omega arith,
+  omega arith,
+  refl,
+)

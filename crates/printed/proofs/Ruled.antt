@@ -51,7 +51,7 @@ lines-read g each at a (suc n) same =
     ap (◌++ gather g (from (suc a) n)) (same a (omega arith))
     ∙ ap (each (at a) ++◌) (lines-read g each at (suc a) n (λ k h. same k (omega arith)))
 
-flash-lines : (n : ℕ) (f : List ℕ) → n * flash_record ≤ length f → flash_lines n f ≡ gather (λ q. line flash_word (flash_bytes q)) (flashes_in n f)
+pub flash-lines : (n : ℕ) (f : List ℕ) → n * flash_record ≤ length f → flash_lines n f ≡ gather (λ q. line flash_word (flash_bytes q)) (flashes_in n f)
 unfolding record_lines flashes_in
 flash-lines n f h =
     lines-read (λ k. line flash_word (record_in flash_record f k)) (λ q. line flash_word (flash_bytes q)) (flash_in f) 0 n

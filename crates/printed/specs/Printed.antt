@@ -3,6 +3,7 @@
 use Rattle.std.specs.Prelude.{cond, List, [], ◌∷◌, ◌++◌, ℕ, ◌+◌, ◌-◌, ◌*◌, ◌^◌, ◌≤◌, eqb, length}
 use Rattle.grid.specs.Limits.{side, flash_record, mark_record}
 use Rattle.grid.specs.Answers.{done, allowance_short}
+use Rattle.grid.specs.declared.answers.Answer.{Answer}
 use Rattle.cover.specs.declared.entry.Outcome.{Outcome}
 use Rattle.grid.specs.Rooms.{Written}
 use Rattle.text.specs.Line.{line, record_lines, field_room}
@@ -32,8 +33,11 @@ abbrev pub mark_lines : ℕ → List ℕ → List ℕ
 mark_lines n m = record_lines mark_word mark_record n m
 
 -- "A refusal prints `refused`, its number and the two place numbers;"
+abbrev pub refusal_line : Answer → List ℕ
+refusal_line a = line refused_word (a.number ∷ a.x ∷ a.y ∷ [])
+
 abbrev pub refused_line : Outcome → List ℕ
-refused_line o = line refused_word (o.answer ∷ o.place_x ∷ o.place_y ∷ [])
+refused_line o = refusal_line (record { number = o.answer; x = o.place_x; y = o.place_y })
 
 -- "after number 9 the mark lines follow."
 abbrev pub marks_after : Outcome → List ℕ → List ℕ

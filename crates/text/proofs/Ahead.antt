@@ -1,7 +1,8 @@
 -- What is still ahead of a writing: the fields of a line from the k-th on, the lines of a room's records from the k-th on.
 -- The next one comes off the front; none is left at the end. Inductions on the list or on the length of the range. The loops over fields and records go by these.
-use mathlib.Core.Path.{◌≡◌, refl, ap, ◌∙◌}
-use mathlib.Core.List.{List, [], ◌∷◌, ◌++◌, append_assoc}
+use mathlib.Core.Path.{◌≡◌, refl, sym, ap, ◌∙◌}
+use Rattle.std.proofs.lemmas.List.{length-map, get_or-map}
+use mathlib.Core.List.{List, [], ◌∷◌, ◌++◌, map, append_assoc}
 use Prim.Native.Nat.{ℕ, suc, ◌+◌, ◌-◌, ◌*◌, ◌≤◌, ◌<◌}
 use native.Mathlib.Omega.{arith}
 use native.Mathlib.Nat.{mul-le-mul_right, suc-mul}
@@ -11,9 +12,9 @@ use Rattle.lists.specs.Lists.{gather, from, up_to}
 use Rattle.text.specs.Words.{feed}
 use Rattle.grid.specs.Rooms.{Written, record_in}
 use Rattle.text.specs.Decimal.{field}
-use Rattle.text.specs.Line.{fields, line, record_lines}
+use Rattle.text.specs.Line.{fields, line}
 use Rattle.grid.proofs.Writing.{drop-next}
-use Rattle.text.proofs.Onward.{Remains, start, fits_next, piece, whole}
+use Rattle.text.proofs.Onward.{Remains, start, fits_next, piece, last, whole}
 
 pub fields-more : (n : ℕ) (ns : List ℕ) → fields (n ∷ ns) ≡ field n ++ fields ns
 fields-more n ns = append_assoc (field n) (gather field ns) (feed ∷ [])
@@ -25,29 +26,38 @@ line-fields word numbers = refl
 pub length-line : (word numbers : List ℕ) → length (line word numbers) ≡ length word + length (fields numbers)
 length-line word numbers = ap length (line-fields word numbers) ∙ length-append word (fields numbers)
 
--- k fields are written; the others and the line feed are left
-pub record Fielded (numbers room₀ : List ℕ) (spot : ℕ) (room : List ℕ) (at k : ℕ) : Type 0 where
-  pub few : k ≤ length numbers
-  pub remains : Remains room₀ spot (fields numbers) room at (fields (drop k numbers))
+-- the word of a line and k fields are written; the others and the line feed are left
+pub record Fielded (word numbers room₀ : List ℕ) (spot : ℕ) (room : List ℕ) (at k : ℕ) : Type 0 where
+  pub remains : Remains room₀ spot (line word numbers) room at (fields (drop k numbers))
 
-module _ {numbers room₀ : List ℕ} {spot : ℕ} {room : List ℕ} {at k : ℕ} (l : Fielded numbers room₀ spot room at k) where
-  next_field : k < length numbers → fields (drop k numbers) ≡ field (get_or numbers k 0) ++ fields (drop (k + 1) numbers)
-  next_field h = ap fields (drop-next numbers k h) ∙ fields-more (get_or numbers k 0) (drop (k + 1) numbers)
+pub headed : (word numbers room₀ : List ℕ) (spot : ℕ) {room : List ℕ} {at : ℕ} → spot + length (line word numbers) ≤ length room₀ → Written room₀ spot word at room
+    → Fielded word numbers room₀ spot room at 0
+headed word numbers room₀ spot h w = record { remains = piece (start room₀ spot (line word numbers) h) word (fields numbers) (line-fields word numbers) w }
 
-  pub field_fits : k < length numbers → at + length (field (get_or numbers k 0)) ≤ length room
-  field_fits h = fits_next l.remains (field (get_or numbers k 0)) (fields (drop (k + 1) numbers)) (next_field h)
+module _ {word numbers room₀ : List ℕ} {spot : ℕ} {room : List ℕ} {at k : ℕ} (l : Fielded word numbers room₀ spot room at k) where
+  module _ (v : ℕ) (h : k < length numbers) (e : get_or numbers k 0 ≡ v) where
+    next_field : fields (drop k numbers) ≡ field v ++ fields (drop (k + 1) numbers)
+    next_field = rw (drop-next numbers k h, e) (fields-more v (drop (k + 1) numbers))
 
-  pub field-written : {after : List ℕ} {next : ℕ} → k < length numbers → Written room at (field (get_or numbers k 0)) next after → Fielded numbers room₀ spot after next (k + 1)
-  field-written h w = record { few = omega arith; remains = piece l.remains (field (get_or numbers k 0)) (fields (drop (k + 1) numbers)) (next_field h) w }
+    pub field_fits : at + length (field v) ≤ length room
+    field_fits = fits_next l.remains (field v) (fields (drop (k + 1) numbers)) next_field
 
-  last-field : length numbers ≤ k → fields (drop k numbers) ≡ feed ∷ []
-  last-field h = ap fields (drop_of_length-le numbers h)
+    pub field-written : {after : List ℕ} {next : ℕ} → Written room at (field v) next after → Fielded word numbers room₀ spot after next (k + 1)
+    field-written w = record { remains = piece l.remains (field v) (fields (drop (k + 1) numbers)) next_field w }
 
-  pub feed-fits : length numbers ≤ k → at < length room
-  feed-fits h = omega (arith, l.remains.fits, ap length (last-field h))
+  module _ (h : length numbers ≤ k) where
+    last-field : fields (drop k numbers) ≡ feed ∷ []
+    last-field = ap fields (drop_of_length-le numbers h)
 
-  pub fields-written : {after : List ℕ} {next : ℕ} → length numbers ≤ k → Written room at (feed ∷ []) next after → Written room₀ spot (fields numbers) next after
-  fields-written h w = whole (piece l.remains (feed ∷ []) [] (last-field h) w) refl
+    pub feed-fits : at < length room
+    feed-fits = omega (arith, l.remains.fits, ap length last-field)
+
+    pub line-ended : {after : List ℕ} {next : ℕ} → Written room at (feed ∷ []) next after → Written room₀ spot (line word numbers) next after
+    line-ended w = last l.remains (feed ∷ []) last-field w
+
+-- the number that the k-th of some things shows
+pub shown : {X : Type 0} (f : X → ℕ) (xs : List X) (k : ℕ) (x : X) {v : ℕ} → k < length xs → x ≡ get_or xs k x → v ≡ f x → (k < length (map f xs)) × (get_or (map f xs) k 0 ≡ v)
+shown f xs k x h e g = (omega (arith, length-map xs f), get_or-map f xs k x 0 h ∙ ap f (sym e) ∙ sym g)
 
 -- the lines of the n-th record and those after it, of as many as count
 abbrev ahead : (ℕ → List ℕ) → ℕ → ℕ → List ℕ
@@ -79,10 +89,6 @@ module _ {g : ℕ → List ℕ} {count : ℕ} {room₀ : List ℕ} {spot : ℕ} 
 -- the line of the k-th record, and that the record lies in the room
 abbrev pub record_line : List ℕ → ℕ → List ℕ → ℕ → List ℕ
 record_line word size records k = line word (record_in size records k)
-
-pub record_lines_lem : (word : List ℕ) (size count : ℕ) (records : List ℕ) → record_lines word size count records ≡ gather (record_line word size records) (up_to count)
-unfolding record_lines
-record_lines_lem word size count records = refl
 
 pub record_inside : (size count k n : ℕ) → k < count → count * size ≤ n → k * size + size ≤ n
 record_inside size count k n h l = let e : suc k ≤ count = omega arith in omega (arith, mul-le-mul_right size e, suc-mul k size)

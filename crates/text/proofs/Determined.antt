@@ -17,6 +17,7 @@ use Rattle.text.proofs.write.put_byte
 use Rattle.text.proofs.write.put_body
 use Rattle.text.proofs.write.put_squares
 use Rattle.text.proofs.write.print_number
+use Rattle.text.proofs.write.put_digits
 use Rattle.text.proofs.write.put_field
 use Rattle.text.proofs.write.digit_count
 
@@ -36,7 +37,7 @@ pub read-field-determined : Determined read_field.Kinds.ps read_field.Kinds.r re
 read-field-determined κs a pre x y v w p q = (p ∙ sym q, refl)
 
 pub digit-count-determined : Determined digit_count.Kinds.ps digit_count.Kinds.r digit_count.Reads.Pre digit_count.Reads.Post
-digit-count-determined κs a pre x y v w p q = (p ∙ sym q, refl)
+digit-count-determined κs a pre x y v w p q = (p.0 ∙ sym q.0, refl)
 
 pub put_byte_determined : Determined put_byte.Kinds.ps put_byte.Kinds.r put_byte.Reads.Pre put_byte.Reads.Post
 put_byte_determined κs a pre x y v w p q = let r = p.left ∙ sym q.left in (p.past ∙ sym q.past, λ i. (r i, (tt, (tt, tt))))
@@ -49,6 +50,9 @@ put_squares-determined κs a pre x y v w p q = let r = p.left ∙ sym q.left in 
 
 pub print_number-determined : Determined print_number.Kinds.ps print_number.Kinds.r print_number.Reads.Pre print_number.Reads.Post
 print_number-determined κs a pre x y v w p q = let r = p.left ∙ sym q.left in (p.past ∙ sym q.past, λ i. (r i, (tt, (tt, tt))))
+
+pub put_digits-determined : Determined put_digits.Kinds.ps put_digits.Kinds.r put_digits.Reads.Pre put_digits.Reads.Post
+put_digits-determined κs a pre x y v w p q = let r = p.left ∙ sym q.left in (p.past ∙ sym q.past, λ i. (r i, (tt, (tt, (tt, tt)))))
 
 pub put_field-determined : Determined put_field.Kinds.ps put_field.Kinds.r put_field.Reads.Pre put_field.Reads.Post
 put_field-determined κs a pre x y v w p q = let r = p.left ∙ sym q.left in (p.past ∙ sym q.past, λ i. (r i, (tt, (tt, tt))))

@@ -1,15 +1,15 @@
 -- Lent numbers filled one after the other: what is wanted is what the first k hold, and then what is still to come.
--- A number stored takes it off the front of what is to come. `clear` and `read_fields` go by this.
+-- A number stored takes it off the front of what is to come. `read_fields` goes by this.
+use Rattle.std.proofs.Common.{None, Option, Some}
+use Rattle.std.specs.Option.{is_some}
+use mathlib.Core.Bool.{true, false, false≢true}
 use mathlib.Core.Path.{◌≡◌, sym, ap, subst, ◌∙◌}
 use mathlib.Core.List.{List, [], ◌∷◌, ◌++◌, append_assoc, append-nil}
 use Prim.Native.Nat.{ℕ, suc, ◌+◌, ◌-◌, ◌≤◌, ◌<◌}
 use native.Mathlib.Omega.{arith}
 use native.Mathlib.Numerals.{add-one}
-use lib.ListN.{length, take, set, length-set, length-replicate}
+use lib.ListN.{length, take, set, length-set}
 use lib.Seq.{take-suc-set, take_all}
-use Rattle.text.specs.declared.read.Next.{Next}
-use Rattle.text.specs.declared.read.Next.TheVariants.{Spot, Nothing}
-use Rattle.text.specs.declared.read.Number.TheVariants.{Value, Nothing as NoNumber}
 use Rattle.text.specs.Decimal.{field_at}
 use Rattle.text.specs.Line.{numbers_from, line_numbers, zeros, numbers_left, ReadLine}
 use Rattle.text.specs.Steps.{fields_at, Filled, LineTried}
@@ -39,32 +39,6 @@ module _ {wanted numbers : List ℕ} {k : ℕ} {rest : List ℕ} (f : Filling wa
   filled h e =
       sym (f.same ∙ ap (take k numbers ++◌) e ∙ append-nil (take k numbers) ∙ take_all k numbers (omega (arith, f.many)))
 
--- a 0 for each of n
-pub record Clearing (n : ℕ) (numbers : List ℕ) (k : ℕ) : Type 0 where
-  pub filling : Filling (zeros n) numbers k (zeros (n - k))
-
-pub clearing : (numbers : List ℕ) → Clearing (length numbers) numbers 0
-clearing numbers =
-    let n = length numbers in
-    let e : n - 0 ≡ n = omega arith in
-    record { filling = record { many = sym (length-replicate n 0); few = omega arith; same = rw e } }
-
-module _ {n : ℕ} {numbers : List ℕ} {k : ℕ} (c : Clearing n numbers k) where
-  pub clear_next : k < n → Clearing n (set numbers k 0) (k + 1)
-  clear_next h =
-      let e : n - k ≡ suc (n - (k + 1)) = omega arith in
-      let l : length (zeros n) ≡ n = length-replicate n 0 in
-      record { filling = fill_next c.filling 0 (zeros (n - (k + 1))) (omega arith) (ap zeros e) }
-
-  pub cleared : n ≤ k → numbers ≡ zeros n
-  cleared h =
-      let e : n - k ≡ 0 = omega arith in
-      let l : length (zeros n) ≡ n = length-replicate n 0 in
-      filled c.filling (omega arith) (ap zeros e)
-
-  pub clear-many : length numbers ≡ n
-  clear-many = c.filling.many ∙ length-replicate n 0
-
 -- fields from a spot on: k of n are read, and the others are to come
 pub record Reading (t : List ℕ) (spot limit n : ℕ) (numbers : List ℕ) (at k : ℕ) : Type 0 where
   pub steps : fields_at t spot limit n ≡ fields_at t at limit (n - k)
@@ -84,7 +58,7 @@ module _ {t : List ℕ} {spot limit n : ℕ} {numbers : List ℕ} {at k : ℕ} (
     left : n - k ≡ suc (n - (k + 1))
     left = omega arith
 
-    pub read_next : {v next : ℕ} → field_at t at limit ≡ Value v next → Reading t spot limit n (set numbers k v) next (k + 1)
+    pub read_next : {v next : ℕ} → field_at t at limit ≡ Some (v, next) → Reading t spot limit n (set numbers k v) next (k + 1)
     read_next {v} {next} e =
         record {
           steps = r.steps ∙ ap (fields_at t at limit) left ∙ fields-next t at limit (n - (k + 1)) e;
@@ -93,10 +67,10 @@ module _ {t : List ℕ} {spot limit n : ℕ} {numbers : List ℕ} {at k : ℕ} (
               (ap (numbers_from t at) left ∙ numbers-next t at limit (n - (k + 1)) e);
         }
 
-    pub read-stop : field_at t at limit ≡ NoNumber → fields_at t spot limit n ≡ Nothing
+    pub read-stop : field_at t at limit ≡ None → fields_at t spot limit n ≡ None
     read-stop e = r.steps ∙ ap (fields_at t at limit) left ∙ fields-stop t at limit (n - (k + 1)) e
 
-  pub read_done : n ≤ k → (fields_at t spot limit n ≡ Spot at) × (numbers ≡ numbers_from t spot n)
+  pub read_done : n ≤ k → (fields_at t spot limit n ≡ Some at) × (numbers ≡ numbers_from t spot n)
   unfolding numbers_from
   read_done h =
       let e : n - k ≡ 0 = omega arith in (
@@ -104,28 +78,28 @@ module _ {t : List ℕ} {spot limit n : ℕ} {numbers : List ℕ} {at k : ℕ} (
         filled r.filling (omega (arith, length-numbers t spot n)) (ap (numbers_from t at) e),
       )
 
-  pub read-many : length numbers ≡ n
-  read-many = r.filling.many ∙ length-numbers t spot n
-
 -- the numbers after a success
-pub on-spot : {x : Next} {after numbers : List ℕ} {j : ℕ} → x ≡ Spot j → Filled x after numbers → after ≡ numbers
-on-spot {after} {numbers} e f = subst (λ (x : Next). Filled x after numbers) e f
+pub on-spot : {x : Option ℕ} {after numbers : List ℕ} {j : ℕ} → x ≡ Some j → Filled x after numbers → after ≡ numbers
+on-spot {after} {numbers} e f = subst (λ (x : Option ℕ). Filled x after numbers) e f
 
-pub all-filled : (x : Next) {after numbers : List ℕ} → after ≡ numbers → Filled x after numbers
-all-filled (Spot j) e = e
-all-filled Nothing e = tt
+pub all-filled : (x : Option ℕ) {after numbers : List ℕ} → after ≡ numbers → Filled x after numbers
+all-filled (Some j) e = e
+all-filled None e = tt
+
+pub none-filled : {x : Option ℕ} (after numbers : List ℕ) → x ≡ None → Filled x after numbers
+none-filled after numbers e = subst (λ (x : Option ℕ). Filled x after numbers) (sym e) tt
 
 -- a line that was tried, and what `read_line` makes of it
-module _ {t : List ℕ} {s : ℕ} {word : List ℕ} {limit : ℕ} {numbers : List ℕ} {x : Next} {after : List ℕ} (l : LineTried t s word limit numbers x after) where
+module _ (t : List ℕ) (s : ℕ) (word : List ℕ) (limit : ℕ) (numbers : List ℕ) where
   abbrev ns : List ℕ
   ns = line_numbers t s word (length numbers)
 
-  pub line_read : {j : ℕ} → x ≡ Spot j → ReadLine t s word limit numbers (Spot j) after
-  line_read e =
-      let p = sym e ∙ l.past in
-      record { past = p; left = on-spot e l.filled ∙ ap (λ (y : Next). numbers_left y ns) p }
+  pub line_read : (x : Option ℕ) {after : List ℕ} → LineTried t s word limit numbers x after → is_some x ≡ true → ReadLine t s word limit numbers x after
+  line_read (Some j) l e = record { past = l.past; left = l.filled ∙ ap (λ (y : Option ℕ). numbers_left y ns) l.past }
+  line_read None l e = absurd (false≢true e)
 
-  pub line_refused : {cleared : List ℕ} → x ≡ Nothing → length after ≡ length numbers → cleared ≡ zeros (length after) → ReadLine t s word limit numbers Nothing cleared
-  line_refused e n z =
-      let p = sym e ∙ l.past in
-      record { past = p; left = z ∙ ap zeros (n ∙ sym (length-numbers t (s + length word) (length numbers))) ∙ ap (λ (y : Next). numbers_left y ns) p }
+  pub line_refused : (x : Option ℕ) {after cleared : List ℕ} → LineTried t s word limit numbers x after → is_some x ≡ false → length after ≡ length numbers → cleared ≡ zeros (length after)
+      → ReadLine t s word limit numbers x cleared
+  line_refused (Some j) l e n z = absurd (false≢true (sym e))
+  line_refused None l e n z =
+      record { past = l.past; left = z ∙ ap zeros (n ∙ sym (length-numbers t (s + length word) (length numbers))) ∙ ap (λ (y : Option ℕ). numbers_left y ns) l.past }

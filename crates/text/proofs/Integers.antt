@@ -1,23 +1,21 @@
 -- Printing and reading a signed number are inverse, for every number of 64 bits with a sign.
 -- The digits are those of the distance from 0, and a text that begins with a digit begins with no minus. Readers of signed numbers use the two theorems.
+use Rattle.std.proofs.Common.{None, Option, Some}
+use Rattle.std.proofs.lemmas.Option.{none-some, cond_some}
 use mathlib.Core.Path.{◌≡◌, refl, sym, ap, ◌∙◌}
 use mathlib.Core.Bool.{Bool, true, false, false≢true}
 use mathlib.Core.List.{List, [], ◌∷◌, ◌++◌}
 use Prim.Native.Nat.{ℕ, zero, suc, ◌+◌, ◌-◌, ◌≤◌, ◌^◌}
 use native.Mathlib.Omega.{arith}
-use lib.Dec.{ltb, eqb}
+use lib.Dec.{eqb}
 use lib.IntN.{ℤ, pos, negsuc, nat_abs}
 use lib.ListN.{length, drop}
 use lib.Seq.{drop-drop}
 use mir.Syntax.{w64}
 use mir.Val.{SFits}
-use borrow.Author.Tests.{lt-ltb, ltb-true, ne_eqb}
+use borrow.Author.Tests.{ne_eqb}
 use Rattle.lists.specs.Lists.{all}
 use Rattle.lists.proofs.Truth.{bcase, and_left}
-use Rattle.text.specs.declared.read.Next.TheVariants.{Spot, Nothing as Missing}
-use Rattle.text.specs.declared.read.Number.{Number}
-use Rattle.text.specs.declared.read.Number.TheVariants.{Value as Unsigned, Nothing as NoNumber}
-use Rattle.text.specs.declared.signed.Integer.TheVariants.{Value, Nothing}
 use Rattle.text.specs.Words.{begins, stands, found, word_at}
 use Rattle.grid.specs.Rooms.{Written}
 use Rattle.text.specs.Decimal.{is_digit_byte, digits, decimal, run, value, plain, number_at}
@@ -27,18 +25,19 @@ use Rattle.text.proofs.Inverse.{read_stated, stated_read}
 use Rattle.grid.proofs.Writing.{from-written, after-written}
 use Rattle.text.proofs.Stands.{stands_at, stands-front}
 use Rattle.text.proofs.Passes.{found-spot}
+use Rattle.text.proofs.Signs.{in_range_lem, range_fits}
 
 -- by the reading of the minus
-found_nothing : (b : Bool) (n : ℕ) → found b n ≡ Missing → b ≡ false
-found_nothing true n e = let z : ◌≡◌ {A = ℕ} 0 1 = cc in absurd (omega arith)
+found_nothing : (b : Bool) (n : ℕ) → found b n ≡ None → b ≡ false
+found_nothing true n e = absurd (none-some n (sym e))
 found_nothing false n e = refl
 
 module _ (t : List ℕ) (i limit : ℕ) where
-  pub signed-minus : {at : ℕ} → word_at t i (minus ∷ []) ≡ Spot at → signed_at t i limit ≡ downward (number_at t at limit)
+  pub signed-minus : {at : ℕ} → word_at t i (minus ∷ []) ≡ Some at → signed_at t i limit ≡ downward (number_at t at limit)
   unfolding signed_at word_at
   signed-minus e = let f = found-spot (stands t i (minus ∷ [])) (i + 1) e in rw (f.0, f.1)
 
-  pub signed-plain : word_at t i (minus ∷ []) ≡ Missing → signed_at t i limit ≡ upward (number_at t i limit)
+  pub signed-plain : word_at t i (minus ∷ []) ≡ None → signed_at t i limit ≡ upward (number_at t i limit)
   unfolding signed_at word_at
   signed-plain e = rw (found_nothing (stands t i (minus ∷ [])) (i + 1) e)
 
@@ -50,23 +49,21 @@ pub record Stands (t : List ℕ) (i limit : ℕ) (z : ℤ) (next : ℕ) : Type 0
   pub there : drop i t ≡ signed z ++ drop next t
   pub ends : run (drop next t) ≡ []
 
-up-from : (x : Number) {z : ℤ} {next : ℕ} → upward x ≡ Value z next → (n : ℕ) × (x ≡ Unsigned n next) × (z ≡ pos n) × (in_range (pos n) ≡ true)
-up-from (Unsigned n at) {z} {next} e =
-    bcase (ltb n (2 ^ 63))
-    (λ u. let f : Value (pos n) at ≡ Value z next = rw u at e in let a : at ≡ next = cc in let b : z ≡ pos n = cc in (n, ap (Unsigned n) a, b, u))
-    (λ u. let f : Nothing ≡ Value z next = rw u at e in let y : ◌≡◌ {A = ℕ} 0 1 = cc in absurd (omega arith))
-up-from NoNumber e = let y : ◌≡◌ {A = ℕ} 0 1 = cc in absurd (omega arith)
+up-from : (x : Option (ℕ × ℕ)) {z : ℤ} {next : ℕ} → upward x ≡ Some (z, next) → (n : ℕ) × (x ≡ Some (n, next)) × (z ≡ pos n) × (in_range (pos n) ≡ true)
+up-from (Some (n, at)) {z} {next} e =
+    let c = cond_some (in_range (pos n)) (pos n, at) (z, next) e in
+    (n, ap (λ (p : ℤ × ℕ). Some (n, p.1)) c.1, sym (ap (λ (p : ℤ × ℕ). p.0) c.1), c.0)
+up-from None {z} {next} e = absurd (none-some (z, next) e)
 
-down-from : (x : Number) {z : ℤ} {next : ℕ} → downward x ≡ Value z next → (n : ℕ) × (x ≡ Unsigned (suc n) next) × (z ≡ negsuc n) × (in_range (negsuc n) ≡ true)
-down-from (Unsigned zero at) e = let y : ◌≡◌ {A = ℕ} 0 1 = cc in absurd (omega arith)
-down-from (Unsigned (suc n) at) {z} {next} e =
-    bcase (ltb n (2 ^ 63))
-    (λ u. let f : Value (negsuc n) at ≡ Value z next = rw u at e in let a : at ≡ next = cc in let b : z ≡ negsuc n = cc in (n, ap (Unsigned (suc n)) a, b, u))
-    (λ u. let f : Nothing ≡ Value z next = rw u at e in let y : ◌≡◌ {A = ℕ} 0 1 = cc in absurd (omega arith))
-down-from NoNumber e = let y : ◌≡◌ {A = ℕ} 0 1 = cc in absurd (omega arith)
+down-from : (x : Option (ℕ × ℕ)) {z : ℤ} {next : ℕ} → downward x ≡ Some (z, next) → (n : ℕ) × (x ≡ Some (suc n, next)) × (z ≡ negsuc n) × (in_range (negsuc n) ≡ true)
+down-from (Some (zero, at)) {z} {next} e = absurd (none-some (z, next) e)
+down-from (Some (suc n, at)) {z} {next} e =
+    let c = cond_some (in_range (negsuc n)) (negsuc n, at) (z, next) e in
+    (n, ap (λ (p : ℤ × ℕ). Some (suc n, p.1)) c.1, sym (ap (λ (p : ℤ × ℕ). p.0) c.1), c.0)
+down-from None {z} {next} e = absurd (none-some (z, next) e)
 
 -- what is read stands there
-pub read-stands : (t : List ℕ) (i limit : ℕ) {z : ℤ} {next : ℕ} → signed_at t i limit ≡ Value z next → Stands t i limit z next
+pub read-stands : (t : List ℕ) (i limit : ℕ) {z : ℤ} {next : ℕ} → signed_at t i limit ≡ Some (z, next) → Stands t i limit z next
 unfolding signed_at signed
 read-stands t i limit {z} {next} e =
     bcase (stands t i (minus ∷ []))
@@ -95,7 +92,7 @@ no_minus (b ∷ ds) q a p =
     let z : eqb minus b ≡ false = ne_eqb minus b (λ e. omega arith) in
     rw z
 
-pub stands_read : (t : List ℕ) (i limit : ℕ) (z : ℤ) {next : ℕ} → Stands t i limit z next → signed_at t i limit ≡ Value z next
+pub stands_read : (t : List ℕ) (i limit : ℕ) (z : ℤ) {next : ℕ} → Stands t i limit z next → signed_at t i limit ≡ Some (z, next)
 unfolding signed_at signed
 stands_read t i limit (pos n) {next} s =
     let none : stands t i (minus ∷ []) ≡ false = ap (begins (minus ∷ [])) s.there ∙ no_minus (decimal n) (drop next t) (all-decimal n) (plain-decimal n) in
@@ -106,12 +103,8 @@ stands_read t i limit (negsuc n) {next} s =
     rw (there, stated_read t (i + 1) limit (suc n) next (record { small = s.small; past = omega (arith, s.past); there = rest; ends = s.ends }), s.range)
 
 -- The two theorems. Every i64 that was printed into a room is read there, unless a digit follows it,
-pub in_range_lem : (z : ℤ) → SFits w64 z → in_range z ≡ true
-in_range_lem (pos n) f = lt-ltb n (2 ^ 63) f.sfits
-in_range_lem (negsuc n) f = lt-ltb n (2 ^ 63) f.sfits
-
 pub printed-read : (room after : List ℕ) (spot : ℕ) (z : ℤ) (next limit : ℕ) → SFits w64 z → spot + length (signed z) ≤ length room → Written room spot (signed z) next after
-    → nat_abs z ≤ limit → run (drop next room) ≡ [] → signed_at after spot limit ≡ Value z next
+    → nat_abs z ≤ limit → run (drop next room) ≡ [] → signed_at after spot limit ≡ Some (z, next)
 printed-read room after spot z next limit f fits w small ends =
     let past : spot + length (signed z) ≡ next = sym w.past in
     let same : drop next after ≡ drop next room = ap (drop next) w.left ∙ rw past at (after-written room spot (signed z) fits) in
@@ -125,13 +118,9 @@ printed-read room after spot z next limit f fits w small ends =
     }
 
 -- and a number that is read is an i64, and what stands in the text is what printing it gives.
-pub read-printed : (text : List ℕ) (spot limit : ℕ) (z : ℤ) (next : ℕ) → signed_at text spot limit ≡ Value z next
+pub read-printed : (text : List ℕ) (spot limit : ℕ) (z : ℤ) (next : ℕ) → signed_at text spot limit ≡ Some (z, next)
     → SFits w64 z × (next ≡ spot + length (signed z)) × (drop spot text ≡ signed z ++ drop next text)
-read-printed text spot limit z next e = let s = read-stands text spot limit e in (fits z s.range, s.past, s.there)
-  where
-    fits : (z : ℤ) → in_range z ≡ true → SFits w64 z
-    fits (pos n) t = record { sfits = ltb-true n (2 ^ 63) t }
-    fits (negsuc n) t = record { sfits = ltb-true n (2 ^ 63) t }
+read-printed text spot limit z next e = let s = read-stands text spot limit e in (range_fits z s.range, s.past, s.there)
 
 -- Tried by evaluation: 0, the ends of i64, and `-0`.
 pub at_zero : signed (pos 0) ≡ 48 ∷ []
@@ -146,6 +135,6 @@ pub at-greatest : signed (pos (2 ^ 63 - 1)) ≡ 57 ∷ 50 ∷ 50 ∷ 51 ∷ 51 �
 unfolding signed decimal digits
 at-greatest = refl
 
-pub minus-zero : signed_at (45 ∷ 48 ∷ []) 0 9 ≡ Nothing
+pub minus-zero : signed_at (45 ∷ 48 ∷ []) 0 9 ≡ None
 unfolding signed_at number_at begins run value
 minus-zero = refl

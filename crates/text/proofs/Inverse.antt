@@ -1,6 +1,8 @@
 -- Printing and reading a number are inverse: what is printed, with no digit behind it, is read as that number, and what is read is what printing gives.
 -- The digits at a spot are as many as there are; with no leading zero they are the digits of what they say.
 -- Every reader of a number and the round trips of jobs use the two theorems.
+use Rattle.std.proofs.Common.{Some}
+use Rattle.std.proofs.lemmas.Option.{none-some, some_pair_parts}
 use mathlib.Core.Path.{◌≡◌, refl, sym, ap, ◌∙◌}
 use mathlib.Core.Bool.{Bool, true, false, ◌&&◌}
 use mathlib.Core.List.{List, [], ◌∷◌, ◌++◌}
@@ -12,7 +14,6 @@ use lib.Seq.{drop-drop, take-append_seam}
 use borrow.Author.Tests.{le-leb, leb-true}
 use Rattle.lists.specs.Lists.{all}
 use Rattle.lists.proofs.Truth.{bcase, and_left, and_right, and_both}
-use Rattle.text.specs.declared.read.Number.TheVariants.{Value}
 use Rattle.grid.specs.Rooms.{Written}
 use Rattle.text.specs.Decimal.{is_digit_byte, decimal, run, value, plain, number, number_at}
 use Rattle.grid.proofs.Writing.{from-written, after-written}
@@ -47,12 +48,12 @@ pub record Stated (text : List ℕ) (spot limit n next : ℕ) : Type 0 where
   pub there : drop spot text ≡ decimal n ++ drop next text
   pub ends : run (drop next text) ≡ []
 
-pub number_true : (b : Bool) (v next n next' : ℕ) → number b v next ≡ Value n next' → (b ≡ true) × (v ≡ n) × (next ≡ next')
-number_true true v next n next' e = (refl, cc, cc)
-number_true false v next n next' e = let z : ◌≡◌ {A = ℕ} 0 1 = cc in absurd (omega arith)
+pub number_true : (b : Bool) (v next n next' : ℕ) → number b v next ≡ Some (n, next') → (b ≡ true) × (v ≡ n) × (next ≡ next')
+number_true true v next n next' e = let p = some_pair_parts v n next next' e in (refl, p.0, p.1)
+number_true false v next n next' e = absurd (none-some (n, next') e)
 
 -- what is read was printed
-pub read_stated : (text : List ℕ) (spot limit n next : ℕ) → number_at text spot limit ≡ Value n next → Stated text spot limit n next
+pub read_stated : (text : List ℕ) (spot limit n next : ℕ) → number_at text spot limit ≡ Some (n, next) → Stated text spot limit n next
 unfolding number_at
 read_stated text spot limit n next e =
     let ds : List ℕ = run (drop spot text) in
@@ -69,17 +70,18 @@ read_stated text spot limit n next e =
     }
 
 -- what is printed is read
-pub stated_read : (text : List ℕ) (spot limit n next : ℕ) → Stated text spot limit n next → number_at text spot limit ≡ Value n next
+pub stated_read : (text : List ℕ) (spot limit n next : ℕ) → Stated text spot limit n next → number_at text spot limit ≡ Some (n, next)
 unfolding number_at
 stated_read text spot limit n next s =
     let d : run (drop spot text) ≡ decimal n = ap run s.there ∙ run-digits (decimal n) (drop next text) (all-decimal n) s.ends in
     let v = value-decimal n in
-    let b : (plain (decimal n) && leb (value 0 (decimal n)) limit) ≡ true = and_both (plain (decimal n)) (leb (value 0 (decimal n)) limit) (plain-decimal n) (le-leb (value 0 (decimal n)) limit (omega arith)) in
+    let b : (plain (decimal n) && leb (value 0 (decimal n)) limit) ≡ true =
+    and_both (plain (decimal n)) (leb (value 0 (decimal n)) limit) (plain-decimal n) (le-leb (value 0 (decimal n)) limit (omega arith)) in
     rw (d, b, v, ← s.past)
 
 -- The two theorems of printing: a number that was printed into a room is read there, unless a digit follows it,
 pub printed-read : (room after : List ℕ) (spot n next limit : ℕ) → spot + length (decimal n) ≤ length room → Written room spot (decimal n) next after
-    → n ≤ limit → run (drop next room) ≡ [] → number_at after spot limit ≡ Value n next
+    → n ≤ limit → run (drop next room) ≡ [] → number_at after spot limit ≡ Some (n, next)
 printed-read room after spot n next limit fits w small ends =
     let past : spot + length (decimal n) ≡ next = sym w.past in
     let same : drop next after ≡ drop next room =
@@ -93,7 +95,7 @@ printed-read room after spot n next limit fits w small ends =
     }
 
 -- and a number that was read, printed into a room, puts the same bytes there as stood in the text.
-pub read-printed : (text room after : List ℕ) (spot limit n next from to : ℕ) → from + length (decimal n) ≤ length room → number_at text spot limit ≡ Value n next
+pub read-printed : (text room after : List ℕ) (spot limit n next from to : ℕ) → from + length (decimal n) ≤ length room → number_at text spot limit ≡ Some (n, next)
     → Written room from (decimal n) to after → take (to - from) (drop from after) ≡ take (next - spot) (drop spot text)
 read-printed text room after spot limit n next from to fits e w =
     let s = read_stated text spot limit n next e in

@@ -32,12 +32,6 @@ digits_grow = by_tenths (λ m. (n : ℕ) → n ≤ m → length (decimal n) ≤ 
         by_cases (dec_lt n 10) (λ k. omega (arith, count_small n k, count-more m h))
         (λ k. omega (arith, count-more n (omega arith), count-more m h, r (n / 10) (omega arith)))
 
-pub digits-few : (n : ℕ) → length (decimal n) ≤ n + 1
-digits-few =
-    by_tenths (λ n. length (decimal n) ≤ n + 1)
-    (λ n h. omega (arith, count_small n h))
-    (λ n h r. omega (arith, count-more n h))
-
 -- numbers up to a limit: those of a part, of two lists, and of a list that is so at each place
 module _ (limit : ℕ) where
   pub within-take : (n : ℕ) (xs : List ℕ) → within limit xs ≡ true → within limit (take n xs) ≡ true

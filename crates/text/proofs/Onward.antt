@@ -8,6 +8,10 @@ use lib.ListN.{length, length-append}
 use Rattle.grid.specs.Rooms.{written, Written}
 use Rattle.grid.proofs.Writing.{written_none, written_then, length-written}
 
+-- a writing at an equal spot of an equal room
+pub same-spot : {room₀ room : List ℕ} {spot at : ℕ} {bytes : List ℕ} {next : ℕ} {after : List ℕ} → room ≡ room₀ → at ≡ spot → Written room at bytes next after → Written room₀ spot bytes next after
+same-spot e f w = rw (← e, ← f) w
+
 -- the room that held `room₀`, where `bytes` are to be written at `spot`, now holds `room`, and `rest` of them are left for `at`
 pub record Remains (room₀ : List ℕ) (spot : ℕ) (bytes room : List ℕ) (at : ℕ) (rest : List ℕ) : Type 0 where
   pub fits : at + length rest ≤ length room

@@ -1,95 +1,61 @@
--- How far a signed number of 64 bits is from 0, and the number below 0 that is so far from it: both by counting from the least number.
--- An i64 is kept as its bits, which are read back as the number that they were made of. `distance` and `below_0` go by this.
-use mathlib.Core.Path.{◌≡◌, refl, sym, ◌∙◌}
+-- A number of 64 bits with a sign: what fits, what a conversion answers, and what is printed of it.
+-- An i64 is kept as its bits, which are read back as the number that they were made of. `print_signed` and `read_signed` go by this.
+use Rattle.std.proofs.Common.{None, Some, Result, Ok, Err}
+use Rattle.std.specs.Result.{OkIff, result_ok}
+use Rattle.std.proofs.lemmas.Option.{none-some, same_Some}
+use mathlib.Core.Path.{◌≡◌, refl, sym, ap, ◌∙◌}
 use mathlib.Core.Bool.{true, false, false≢true}
 use mathlib.Core.List.{◌∷◌}
-use Prim.Native.Nat.{ℕ, zero, suc, ◌-◌, ◌^◌, ◌≤◌, ◌<◌}
+use Prim.Native.Nat.{ℕ, zero, suc, ◌^◌, ◌<◌}
 use native.Mathlib.Omega.{arith}
-use lib.Dec.{T, ltb}
-use lib.IntN.{ℤ, pos, negsuc, neg_ℤ, nat_abs, ◌+ℤ◌, ◌-ℤ◌}
-use lib.Signed.{lt_z, non_neg}
+use lib.IntN.{ℤ, pos, negsuc, nat_abs, ◌-ℤ◌, +ℤ_idl}
+use lib.Signed.{lt_z}
 use mir.Syntax.{w64}
-use mir.Val.{Fits, SFits, of_z, to_z}
+use mir.Val.{SFits, of_z, to_z}
 use mir.Facts.{to_z-of_z}
-use borrow.Author.Tests.{lt-ltb, le-ltb}
-use Rattle.text.specs.declared.read.Number.TheVariants.{Value as Unsigned}
-use Rattle.text.specs.declared.signed.Integer.TheVariants.{Value, Nothing}
+use borrow.Author.Tests.{lt-ltb, le-ltb, ltb-true}
+use Rattle.lists.proofs.Truth.{bcase}
 use Rattle.text.specs.Decimal.{decimal}
-use Rattle.text.specs.Signed.{minus, signed, upward, downward}
-
-abbrev pub least : ℤ
-least = negsuc 9223372036854775807
+use Rattle.text.specs.Signed.{minus, signed, in_range, integer, upward, downward}
 
 pub fits_pos : (n : ℕ) → n < 2 ^ 63 → SFits w64 (pos n)
 fits_pos n h = record { sfits = h }
 
--- counted from the least
-up_least : (n : ℕ) → n < 2 ^ 63 → negsuc n -ℤ least ≡ pos (2 ^ 63 - suc n)
-up_least n h = let z : ltb (2 ^ 63) (suc n) ≡ false = le-ltb (2 ^ 63) (suc n) (omega arith) in rw z
+pub in_range_lem : (z : ℤ) → SFits w64 z → in_range z ≡ true
+in_range_lem (pos n) f = lt-ltb n (2 ^ 63) f.sfits
+in_range_lem (negsuc n) f = lt-ltb n (2 ^ 63) f.sfits
 
-least-up : (m : ℕ) → m < 2 ^ 63 → least +ℤ pos m ≡ negsuc (2 ^ 63 - suc m)
-least-up m h = let z : ltb m (2 ^ 63) ≡ true = lt-ltb m (2 ^ 63) h in rw z
+pub range_fits : (z : ℤ) → in_range z ≡ true → SFits w64 z
+range_fits (pos n) t = record { sfits = ltb-true n (2 ^ 63) t }
+range_fits (negsuc n) t = record { sfits = ltb-true n (2 ^ 63) t }
 
--- what the code asks on its way from a number below 0 to its distance; `up` is the number counted from the least
-pub record Counted (z up : ℤ) : Type 0 where
-  pub fits : SFits w64 up
-  pub sign : T (non_neg (to_z w64 (of_z w64 up)))
-  pub small : Fits w64 (nat_abs (to_z w64 (of_z w64 up)))
-  pub most : nat_abs (to_z w64 (of_z w64 up)) ≤ 2 ^ 63
-  pub result : 2 ^ 63 - nat_abs (to_z w64 (of_z w64 up)) ≡ nat_abs z
+-- what a number is as one of 64 bits with a sign, and where it is none
+module _ (z : ℤ) (next : ℕ) where
+  pub integer-near : {y : ℤ} → SFits w64 z → y ≡ z → integer z next ≡ Some (to_z w64 (of_z w64 y), next)
+  integer-near f e = rw (e, to_z-of_z f, in_range_lem z f)
 
-pub counted : (z : ℤ) → SFits w64 z → lt_z (to_z w64 (of_z w64 z)) (pos 0) ≡ true → Counted z (to_z w64 (of_z w64 z) -ℤ least)
-counted z f t = rw (to_z-of_z f) (go z f (rw (to_z-of_z f) at t))
-  where
-    go : (z : ℤ) → SFits w64 z → lt_z z (pos 0) ≡ true → Counted z (z -ℤ least)
-    go (pos n) f t = absurd (false≢true (sym (le-ltb n 0 (omega arith)) ∙ t))
-    go (negsuc n) f t =
-        let h : n < 2 ^ 63 = f.sfits in
-        let m : ℕ = 2 ^ 63 - suc n in
-        let s : SFits w64 (pos m) = fits_pos m (omega arith) in
-        rw (up_least n h)
-        record { fits = s; sign = rw (to_z-of_z s) tt; small = rw (to_z-of_z s) (record { fits = omega arith }); most = rw (to_z-of_z s) (omega arith); result = rw (to_z-of_z s) (omega arith) }
+  pub integer-far : (SFits w64 z → ⊥) → integer z next ≡ None
+  integer-far n = bcase (in_range z) (λ u. absurd (n (range_fits z u))) (λ u. rw u)
 
--- and back
-pub record Sunk (d : ℕ) (sum : ℤ) : Type 0 where
-  pub fits : SFits w64 sum
-  pub result : to_z w64 (of_z w64 sum) ≡ neg_ℤ (pos d)
+pub downward-is : (d next : ℕ) → (d ≡ 0 → ⊥) → downward (Some (d, next)) ≡ integer (pos 0 -ℤ pos d) next
+downward-is zero next n = absurd (n refl)
+downward-is (suc d) next n = ap (λ (z : ℤ). integer z next) (sym (+ℤ_idl (negsuc d)))
 
-pub sunk : (d : ℕ) → 1 ≤ d → d ≤ 2 ^ 63 → Sunk d (least +ℤ to_z w64 (2 ^ 63 - d))
-sunk zero a b = absurd (omega arith)
-sunk (suc k) a b =
-    let m : ℕ = 2 ^ 63 - suc k in
-    let s : SFits w64 (pos m) = fits_pos m (omega arith) in
-    let e : 2 ^ 63 - suc m ≡ k = omega arith in
-    let f : SFits w64 (negsuc k) = record { sfits = omega arith } in
-    rw (to_z-of_z s, least-up m (omega arith), e) (record { fits = f; result = to_z-of_z f })
+-- a conversion's answer
+module _ {E : Type 0} (n next : ℕ) (r : Result ℤ E) (o : OkIff r (SFits w64 (pos n)) (pos n)) where
+  pub upward-some : {z : ℤ} → Some z ≡ result_ok r → upward (Some (n, next)) ≡ Some (to_z w64 (of_z w64 z), next)
+  upward-some {z} e = go r o e
+    where
+      go : (r : Result ℤ E) → OkIff r (SFits w64 (pos n)) (pos n) → Some z ≡ result_ok r → upward (Some (n, next)) ≡ Some (to_z w64 (of_z w64 z), next)
+      go (Ok x) o e = integer-near (pos n) next o.0 (same_Some z x e ∙ o.1)
+      go (Err x) o e = absurd (none-some z (sym e))
 
--- a number that is not below 0 is its own distance
-pub plain_distance : (z : ℤ) → SFits w64 z → lt_z (to_z w64 (of_z w64 z)) (pos 0) ≡ false
-    → T (non_neg (to_z w64 (of_z w64 z))) × Fits w64 (nat_abs (to_z w64 (of_z w64 z)))
-plain_distance z f t = rw (to_z-of_z f) (go z f (rw (to_z-of_z f) at t))
-  where
-    go : (z : ℤ) → SFits w64 z → lt_z z (pos 0) ≡ false → T (non_neg z) × Fits w64 (nat_abs z)
-    go (pos n) f t = let h : n < 2 ^ 63 = f.sfits in (tt, record { fits = omega arith })
-    go (negsuc n) f t = absurd (false≢true (sym t))
-
--- a number that was read, as one that is not below 0 and as one below 0
-module _ (n next : ℕ) where
-  pub upward_near : n < 2 ^ 63 → upward (Unsigned n next) ≡ Value (to_z w64 n) next
-  upward_near h = rw (to_z-of_z (fits_pos n h), lt-ltb n (2 ^ 63) h)
-
-  pub upward-far : 2 ^ 63 ≤ n → upward (Unsigned n next) ≡ Nothing
-  upward-far h = rw (le-ltb n (2 ^ 63) h)
-
-pub downward_near : (d next : ℕ) {z : ℤ} → (d ≡ 0 → ⊥) → d ≤ 2 ^ 63 → z ≡ neg_ℤ (pos d) → downward (Unsigned d next) ≡ Value (to_z w64 (of_z w64 z)) next
-downward_near zero next n h e = absurd (n refl)
-downward_near (suc k) next n h e =
-    let f : SFits w64 (negsuc k) = record { sfits = omega arith } in
-    rw (e, to_z-of_z f, lt-ltb k (2 ^ 63) (omega arith))
-
-pub downward-far : (d next : ℕ) → 2 ^ 63 < d → downward (Unsigned d next) ≡ Nothing
-downward-far zero next h = refl
-downward-far (suc k) next h = rw (le-ltb k (2 ^ 63) (omega arith))
+  pub upward-none : None ≡ result_ok r → upward (Some (n, next)) ≡ None
+  upward-none e = go r o e
+    where
+      go : (r : Result ℤ E) → OkIff r (SFits w64 (pos n)) (pos n) → None ≡ result_ok r → upward (Some (n, next)) ≡ None
+      go (Ok x) o e = absurd (none-some x e)
+      go (Err x) o e = integer-far (pos n) next o
 
 -- what is printed: a minus and the distance of a number below 0, the distance of another
 module _ (z : ℤ) (f : SFits w64 z) where

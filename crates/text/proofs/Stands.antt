@@ -1,5 +1,9 @@
 -- What it means that a word stands in a text at a spot: the text from the spot on is the word and then the rest.
 -- Inductions on the word. Every reader of a line takes its line apart with these.
+use Rattle.std.specs.Bool.{then_some}
+use Rattle.std.proofs.Common.{None, nat_eq}
+use Rattle.std.specs.List.{list_all, starts_with, slice_range}
+use Rattle.std.proofs.lemmas.Slice.{between_from_start}
 use mathlib.Core.Path.{◌≡◌, refl, sym, ap, ◌∙◌}
 use mathlib.Core.Bool.{Bool, true, false, ◌&&◌, false≢true}
 use mathlib.Core.List.{List, [], ◌∷◌, ◌++◌, map}
@@ -7,14 +11,12 @@ use mathlib.Core.Logic.{by_cases}
 use Prim.Native.Nat.{ℕ, suc, ◌+◌, ◌≤◌, ◌<◌}
 use native.Mathlib.Omega.{arith}
 use native.Mathlib.Decide.{ℕ_discrete}
-use native.Mathlib.Numerals.{add-one}
-use lib.Dec.{leb, eqb, leb-suc-suc}
-use lib.ListN.{length, take, drop, get_or, length-append, length-drop, drop_of_length-le}
-use lib.Seq.{drop-cons, drop-drop}
-use borrow.Author.Tests.{eq-eqb, ne_eqb, eqb-true, le-leb, lt-leb, leb-true}
+use lib.Dec.{leb, eqb}
+use lib.ListN.{length, take, drop, length-append, length-drop}
+use lib.Seq.{drop-drop}
+use borrow.Author.Tests.{eq-eqb, eqb-true, le-leb, lt-leb, leb-true}
 use Rattle.lists.specs.Lists.{all}
 use Rattle.lists.proofs.Truth.{bcase, and_left, and_right, and_both}
-use Rattle.text.specs.declared.read.Next.TheVariants.{Spot, Nothing}
 use Rattle.text.specs.Words.{copper_glyph, none_glyph, begins, stands, found, word_at, glyph, square, is_square, body_at}
 
 begins_self : (w q : List ℕ) → begins w (w ++ q) ≡ true
@@ -53,64 +55,34 @@ stands-inside t i b w h =
     let e : length (drop i t) ≡ suc (length w + length (drop (i + suc (length w)) t)) = ap length (stands-front t i (b ∷ w) h) ∙ ap suc (length-append w (drop (i + suc (length w)) t)) in
     omega (arith, length-drop i t)
 
--- a byte at a time
-pub word_none : (t : List ℕ) (i : ℕ) → word_at t i [] ≡ Spot i
-unfolding word_at begins
-word_none t i = ap Spot (omega arith)
-
-pub word_ended : (t : List ℕ) (i b : ℕ) (w : List ℕ) → length t ≤ i → word_at t i (b ∷ w) ≡ Nothing
-unfolding word_at begins
-word_ended t i b w h = rw (drop_of_length-le t h)
-
-word_cons : (t : List ℕ) (i b : ℕ) (w : List ℕ) → i < length t → stands t i (b ∷ w) ≡ (eqb b (get_or t i 0) && stands t (suc i) w)
+-- the tests that the code makes: of a word, that the text from the spot on starts with it; of a row's body, that each character is a square
+begins-starts : (w t : List ℕ) → begins w t ≡ starts_with nat_eq t w
 unfolding begins
-word_cons t i b w h = ap (begins (b ∷ w)) (drop-cons t i 0 h)
+begins-starts [] t = refl
+begins-starts (b ∷ w) [] = refl
+begins-starts (b ∷ w) (c ∷ t) = ap (λ (r : Bool). eqb b c && r) (begins-starts w t)
 
-pub word_other : (t : List ℕ) (i b : ℕ) (w : List ℕ) → i < length t → (get_or t i 0 ≡ b → ⊥) → word_at t i (b ∷ w) ≡ Nothing
+pub word-starts : (t : List ℕ) (i : ℕ) (w : List ℕ) {s : List ℕ} {r : Bool} → s ≡ drop i t → r ≡ starts_with nat_eq s w → word_at t i w ≡ found r (i + length w)
 unfolding word_at
-word_other t i b w h n = let z : eqb b (get_or t i 0) ≡ false = ne_eqb b (get_or t i 0) (λ e. n (sym e)) in rw (word_cons t i b w h, z)
+word-starts t i w d e = rw (begins-starts w (drop i t), ← d, ← e)
 
-pub word_same : (t : List ℕ) (i b : ℕ) (w : List ℕ) → i < length t → get_or t i 0 ≡ b → word_at t i (b ∷ w) ≡ word_at t (i + 1) w
-unfolding word_at
-word_same t i b w h e =
-    let z : eqb b (get_or t i 0) ≡ true = eq-eqb b (get_or t i 0) (sym e) in
-    let n : i + suc (length w) ≡ i + 1 + length w = omega arith in
-    rw (word_cons t i b w h, z, n, add-one)
+all-listed : (p : ℕ → Bool) (xs : List ℕ) → all p xs ≡ list_all p xs
+all-listed p [] = refl
+all-listed p (x ∷ xs) = ap (λ (r : Bool). p x && r) (all-listed p xs)
 
--- a row's body, a square at a time
-pub body-none : (t : List ℕ) (i : ℕ) → body_at t i 0 ≡ Spot i
-unfolding body_at
-body-none t i = rw (le-leb 0 (length (drop i t)) (omega arith)) (ap Spot (omega arith))
+module _ (t : List ℕ) (i w : ℕ) {s : List ℕ} (d : s ≡ drop i t) where
+  pub body-short : length s < w → body_at t i w ≡ None
+  unfolding body_at
+  body-short h = rw (← d, lt-leb w (length s) h)
 
-pub body_ended : (t : List ℕ) (i w : ℕ) → length t ≤ i → body_at t i (suc w) ≡ Nothing
-unfolding body_at
-body_ended t i w h = rw (lt-leb (suc w) (length (drop i t)) (omega (arith, length-drop i t)))
+  pub body-all : {r : Bool} → w ≤ length s → r ≡ list_all is_square (slice_range s 0 w) → body_at t i w ≡ found r (i + w)
+  unfolding body_at
+  body-all h e = rw (← d, le-leb w (length s) h, all-listed is_square (take w s), ← between_from_start s w, ← e)
 
--- the test of `body_at`
-abbrev fits : List ℕ → ℕ → ℕ → Bool
-fits t i w = leb w (length (drop i t)) && all is_square (take w (drop i t))
-
-past : (a b c : Bool) → (a && (b && c)) ≡ (b && (a && c))
-past true b c = refl
-past false true c = refl
-past false false c = refl
-
-body-cons : (t : List ℕ) (i w : ℕ) → i < length t → fits t i (suc w) ≡ (is_square (get_or t i 0) && fits t (suc i) w)
-body-cons t i w h =
-    ap (λ (l : List ℕ). leb (suc w) (length l) && all is_square (take (suc w) l)) (drop-cons t i 0 h)
-    ∙ ap (λ (b : Bool). b && (is_square (get_or t i 0) && all is_square (take w (drop (suc i) t)))) (leb-suc-suc w (length (drop (suc i) t)))
-    ∙ past (leb w (length (drop (suc i) t))) (is_square (get_or t i 0)) (all is_square (take w (drop (suc i) t)))
-
-pub body-other : (t : List ℕ) (i w : ℕ) → i < length t → is_square (get_or t i 0) ≡ false → body_at t i (suc w) ≡ Nothing
-unfolding body_at
-body-other t i w h n = ap (λ (b : Bool). found b (i + suc w)) (body-cons t i w h ∙ ap (λ (b : Bool). b && fits t (suc i) w) n)
-
-pub body_same : (t : List ℕ) (i w : ℕ) → i < length t → is_square (get_or t i 0) ≡ true → body_at t i (suc w) ≡ body_at t (i + 1) w
-unfolding body_at
-body_same t i w h s =
-    let n : i + suc w ≡ i + 1 + w = omega arith in
-    ap (λ (b : Bool). found b (i + suc w)) (body-cons t i w h ∙ ap (λ (b : Bool). b && fits t (suc i) w) s)
-    ∙ rw (n, add-one)
+-- `then_some`, of a spot
+pub some-found : (r : Bool) (i : ℕ) → then_some r i ≡ found r i
+some-found true i = refl
+some-found false i = refl
 
 -- characters that are squares, and squares as characters
 pub glyph-square : (c : ℕ) → is_square c ≡ true → glyph (square c) ≡ c

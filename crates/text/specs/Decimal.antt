@@ -1,10 +1,7 @@
 -- Numbers in decimal: the digits of a number, and the number that stands in a text at a spot.
 -- "Numbers are decimal, .. no leading zero, no sign."
-use Rattle.std.specs.Prelude.{Bool, true, false, cond, not, ◌&&◌, List, [], ◌∷◌, ◌++◌, ℕ, zero, suc, ◌+◌, ◌-◌, ◌*◌, ◌/◌, ◌%◌, leb, ltb, eqb, length, drop}
-use Rattle.text.specs.declared.read.Next.{Next}
-use Rattle.text.specs.declared.read.Next.TheVariants.{Spot, Nothing as Missing}
-use Rattle.text.specs.declared.read.Number.{Number}
-use Rattle.text.specs.declared.read.Number.TheVariants.{Value, Nothing}
+use Rattle.std.specs.Prelude.{Bool, true, false, cond, not, ◌&&◌, List, [], ◌∷◌, ◌++◌, ℕ, zero, suc, ◌+◌, ◌-◌, ◌*◌, ◌/◌, ◌%◌, leb, ltb, eqb, length, drop, Option, Some, None}
+use Rattle.std.specs.Option.{option_and_then}
 use Rattle.text.specs.Words.{tab, word_at}
 
 -- the byte of a digit, 0 to 9
@@ -23,6 +20,11 @@ digits (suc deep) n = elim (ltb n 10) [ true ↦ digit n ∷ [] | false ↦ digi
 unfoldable pub decimal : ℕ → List ℕ
 decimal n = digits (suc n) n
 
+-- the last digits of n, as many as count, a zero for each that n has not
+unfoldable pub last_digits : ℕ → ℕ → List ℕ
+last_digits zero n = []
+last_digits (suc count) n = last_digits count (n / 10) ++ (digit (n % 10) ∷ [])
+
 -- the digits at the front of a text, as many as there are
 unfoldable pub run : List ℕ → List ℕ
 run [] = []
@@ -39,21 +41,21 @@ plain [] = false
 plain (b ∷ []) = true
 plain (b ∷ c ∷ ds) = not (eqb b (digit 0))
 
-abbrev pub number : Bool → ℕ → ℕ → Number
-number true v next = Value v next
-number false v next = Nothing
+abbrev pub number : Bool → ℕ → ℕ → Option (ℕ × ℕ)
+number true v next = Some (v, next)
+number false v next = None
 
 -- the digits at the spot, read on from v
-unfoldable pub read_on : ℕ → List ℕ → ℕ → ℕ → Number
+unfoldable pub read_on : ℕ → List ℕ → ℕ → ℕ → Option (ℕ × ℕ)
 read_on v text spot limit =
     let ds = run (drop spot text) in
     number (leb (value v ds) limit) (value v ds) (spot + length ds)
 
-abbrev pub digits_at : List ℕ → ℕ → ℕ → Number
+abbrev pub digits_at : List ℕ → ℕ → ℕ → Option (ℕ × ℕ)
 digits_at text spot limit = read_on 0 text spot limit
 
 -- the number at the spot, at most the limit
-unfoldable pub number_at : List ℕ → ℕ → ℕ → Number
+unfoldable pub number_at : List ℕ → ℕ → ℕ → Option (ℕ × ℕ)
 number_at text spot limit =
     let ds = run (drop spot text) in
     number (plain ds && leb (value 0 ds) limit) (value 0 ds) (spot + length ds)
@@ -62,9 +64,5 @@ number_at text spot limit =
 abbrev pub field : ℕ → List ℕ
 field n = tab ∷ decimal n
 
-abbrev pub then_number : Next → (ℕ → Number) → Number
-then_number (Spot at) read = read at
-then_number Missing read = Nothing
-
-unfoldable pub field_at : List ℕ → ℕ → ℕ → Number
-field_at text spot limit = then_number (word_at text spot (tab ∷ [])) (λ at. number_at text at limit)
+unfoldable pub field_at : List ℕ → ℕ → ℕ → Option (ℕ × ℕ)
+field_at text spot limit = option_and_then (λ at. number_at text at limit) (word_at text spot (tab ∷ []))

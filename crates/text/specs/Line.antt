@@ -1,9 +1,7 @@
 -- A line of text: a word and its numbers. Every kind of line that is a word and numbers is said by these two, printed and read.
-use Rattle.std.specs.Prelude.{◌≡◌, Bool, ◌&&◌, List, [], ◌∷◌, ◌++◌, ℕ, zero, suc, ◌+◌, leb, length, drop, replicate}
+use Rattle.std.specs.Prelude.{◌≡◌, Bool, ◌&&◌, List, [], ◌∷◌, ◌++◌, ℕ, zero, suc, ◌+◌, leb, length, drop, replicate, Option, Some, None}
 use Rattle.lists.specs.Lists.{all, gather, up_to}
 use Rattle.grid.specs.Rooms.{record_in}
-use Rattle.text.specs.declared.read.Next.{Next}
-use Rattle.text.specs.declared.read.Next.TheVariants.{Spot, Nothing}
 use Rattle.text.specs.Words.{feed, stands, found}
 use Rattle.text.specs.Decimal.{decimal, run, value, field}
 
@@ -36,7 +34,7 @@ within limit numbers = all (λ v. leb v limit) numbers
 abbrev pub line_numbers : List ℕ → ℕ → List ℕ → ℕ → List ℕ
 line_numbers text spot word n = numbers_from text (spot + length word) n
 
-unfoldable pub line_at : List ℕ → ℕ → List ℕ → ℕ → ℕ → Next
+unfoldable pub line_at : List ℕ → ℕ → List ℕ → ℕ → ℕ → Option ℕ
 line_at text spot word limit n =
     let numbers = line_numbers text spot word n in
     found (within limit numbers && stands text spot (line word numbers)) (spot + length (line word numbers))
@@ -45,11 +43,11 @@ abbrev pub zeros : ℕ → List ℕ
 zeros n = replicate n 0
 
 -- what is left where as many numbers were lent as the line has: its numbers, or 0 for each where no such line stands there
-abbrev pub numbers_left : Next → List ℕ → List ℕ
-numbers_left (Spot next) numbers = numbers
-numbers_left Nothing numbers = zeros (length numbers)
+abbrev pub numbers_left : Option ℕ → List ℕ → List ℕ
+numbers_left (Some next) numbers = numbers
+numbers_left None numbers = zeros (length numbers)
 
 -- what `read_line` answers, and leaves
-pub record ReadLine (text : List ℕ) (spot : ℕ) (word : List ℕ) (limit : ℕ) (numbers : List ℕ) (next : Next) (after : List ℕ) : Type 0 where
+pub record ReadLine (text : List ℕ) (spot : ℕ) (word : List ℕ) (limit : ℕ) (numbers : List ℕ) (next : Option ℕ) (after : List ℕ) : Type 0 where
   pub past : next ≡ line_at text spot word limit (length numbers)
   pub left : after ≡ numbers_left (line_at text spot word limit (length numbers)) (line_numbers text spot word (length numbers))

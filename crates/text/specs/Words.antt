@@ -1,8 +1,6 @@
 -- What stands in a text at a spot. A text is a list of bytes; a spot counts the bytes before it.
-use Rattle.std.specs.Prelude.{Bool, true, false, cond, ◌&&◌, ◌||◌, List, [], ◌∷◌, ℕ, ◌+◌, leb, eqb, length, take, drop}
+use Rattle.std.specs.Prelude.{Bool, true, false, cond, ◌&&◌, ◌||◌, List, [], ◌∷◌, ℕ, ◌+◌, leb, eqb, length, take, drop, Option, Some, None}
 use Rattle.lists.specs.Lists.{all}
-use Rattle.text.specs.declared.read.Next.{Next}
-use Rattle.text.specs.declared.read.Next.TheVariants.{Spot, Nothing}
 
 -- the bytes with a name; "`#` copper and `.` none"
 abbrev pub tab : ℕ
@@ -28,11 +26,11 @@ abbrev pub stands : List ℕ → ℕ → List ℕ → Bool
 stands text spot word = begins word (drop spot text)
 
 -- the spot past what was found
-abbrev pub found : Bool → ℕ → Next
-found true spot = Spot spot
-found false spot = Nothing
+abbrev pub found : Bool → ℕ → Option ℕ
+found true spot = Some spot
+found false spot = None
 
-unfoldable pub word_at : List ℕ → ℕ → List ℕ → Next
+unfoldable pub word_at : List ℕ → ℕ → List ℕ → Option ℕ
 word_at text spot word = found (stands text spot word) (spot + length word)
 
 -- the one byte where b is the key, and the other where it is not
@@ -50,5 +48,5 @@ abbrev pub is_square : ℕ → Bool
 is_square c = eqb c copper_glyph || eqb c none_glyph
 
 -- "width characters, `#` copper and `.` none"
-unfoldable pub body_at : List ℕ → ℕ → ℕ → Next
+unfoldable pub body_at : List ℕ → ℕ → ℕ → Option ℕ
 body_at text spot width = found (leb width (length (drop spot text)) && all is_square (take width (drop spot text))) (spot + width)

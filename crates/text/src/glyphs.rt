@@ -10,5 +10,3 @@ pub const COPPER: u8 = b'#';
 pub const NONE: u8 = b'.';
 
 pub const ZERO: u8 = b'0';
-
-pub const NINE: u8 = b'9';

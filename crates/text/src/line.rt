@@ -1,22 +1,45 @@
 // A line: a word and its numbers, printed and read.
-ghost use Rattle.std.specs.Prelude.{◌≡◌, ◌+◌, ◌*◌, ◌≤◌, length};
+ghost use Rattle.std.specs.Prelude.{◌≡◌, ℕ, ◌+◌, ◌*◌, ◌≤◌, length, map};
 ghost use Rattle.grid.specs.Rooms.{Written};
-ghost use Rattle.text.specs.Line.{fields, line, record_lines, zeros, ReadLine};
+ghost use Rattle.text.specs.Line.{line, record_lines, ReadLine};
 ghost use Rattle.text.specs.Steps.{FieldsRead, LineTried};
 
 use crate::glyphs::FEED;
-use crate::read::{Next, Number, read_byte, read_field, read_word};
+use crate::read::{read_byte, read_field, read_word};
 use crate::write::{put_byte, put_field};
 use grid::rooms::put_bytes;
 
-// The fields, and the line feed.
-fn put_fields(room: &mut [u8], spot: usize, numbers: &[u64]) -> usize
-    requires { spot + length (fields numbers.now) ≤ length room.old }
-    ensures { Written room.old spot (fields numbers.now) result room.new }
+// What a field shows: a number, or a record's byte.
+trait Number: Copy {
+    ghost value: { Self → ℕ };
+
+    fn value(self) -> u64
+        ensures { result ≡ value self };
+}
+
+impl Number for u64 {
+    ghost value = { λ n. n };
+
+    fn value(self) -> u64 {
+        self
+    }
+}
+
+impl Number for u8 {
+    ghost value = { λ b. b };
+
+    fn value(self) -> u64 {
+        u64::from(self)
+    }
+}
+
+fn put_numbers<T: Number>(room: &mut [u8], spot: usize, word: &[u8], numbers: &[T]) -> usize
+    requires { spot + length (line word.now (map T.value numbers.now)) ≤ length room.old }
+    ensures { Written room.old spot (line word.now (map T.value numbers.now)) result room.new }
 {
-    let mut at = spot;
-    for k in 0..numbers.len() {
-        at = put_field(room, at, numbers[k]);
+    let mut at = put_bytes(room, spot, word);
+    for number in numbers {
+        at = put_field(room, at, number.value());
     }
     put_byte(room, at, FEED)
 }
@@ -25,28 +48,15 @@ pub fn put_line(room: &mut [u8], spot: usize, word: &[u8], numbers: &[u64]) -> u
     requires { spot + length (line word.now numbers.now) ≤ length room.old }
     ensures { Written room.old spot (line word.now numbers.now) result room.new }
 {
-    let at = put_bytes(room, spot, word);
-    put_fields(room, at, numbers)
+    put_numbers(room, spot, word, numbers)
 }
 
-// The same of a record's bytes.
-fn put_record_fields(room: &mut [u8], spot: usize, bytes: &[u8]) -> usize
-    requires { spot + length (fields bytes.now) ≤ length room.old }
-    ensures { Written room.old spot (fields bytes.now) result room.new }
-{
-    let mut at = spot;
-    for k in 0..bytes.len() {
-        at = put_field(room, at, bytes[k] as u64);
-    }
-    put_byte(room, at, FEED)
-}
-
+// The numbers are a record's bytes.
 pub fn put_record_line(room: &mut [u8], spot: usize, word: &[u8], bytes: &[u8]) -> usize
     requires { spot + length (line word.now bytes.now) ≤ length room.old }
     ensures { Written room.old spot (line word.now bytes.now) result room.new }
 {
-    let at = put_bytes(room, spot, word);
-    put_record_fields(room, at, bytes)
+    put_numbers(room, spot, word, bytes)
 }
 
 // A line for each record of a size.
@@ -70,50 +80,40 @@ pub fn put_record_lines(
 }
 
 // A field for each of the lent numbers.
-fn read_fields(text: &[u8], spot: usize, limit: u64, numbers: &mut [u64]) -> Next
+fn read_fields(text: &[u8], spot: usize, limit: u64, numbers: &mut [u64]) -> Option<usize>
     ensures { FieldsRead text.now spot limit numbers.old result numbers.new }
 {
     let mut at = spot;
-    for k in 0..numbers.len() {
-        let Number::Value(value, next) = read_field(text, at, limit) else {
-            return Next::Nothing;
-        };
-        numbers[k] = value;
+    for number in numbers.iter_mut() {
+        let (value, next) = read_field(text, at, limit)?;
+        *number = value;
         at = next;
     }
-    Next::Spot(at)
+    Some(at)
 }
 
 // Where no such line stands there, some numbers may have been changed.
-fn try_line(text: &[u8], spot: usize, word: &[u8], limit: u64, numbers: &mut [u64]) -> Next
+fn try_line(text: &[u8], spot: usize, word: &[u8], limit: u64, numbers: &mut [u64]) -> Option<usize>
     ensures { LineTried text.now spot word.now limit numbers.old result numbers.new }
 {
-    let Next::Spot(first) = read_word(text, spot, word) else {
-        return Next::Nothing;
-    };
-    let Next::Spot(end) = read_fields(text, first, limit, numbers) else {
-        return Next::Nothing;
-    };
+    let first = read_word(text, spot, word)?;
+    let end = read_fields(text, first, limit, numbers)?;
     read_byte(text, end, FEED)
 }
 
-fn clear(numbers: &mut [u64])
-    ensures { numbers.new ≡ zeros (length numbers.old) }
-{
-    for k in 0..numbers.len() {
-        numbers[k] = 0;
-    }
-}
-
-// The word, as many numbers as are lent, each at most the limit, and the line feed.
-pub fn read_line(text: &[u8], spot: usize, word: &[u8], limit: u64, numbers: &mut [u64]) -> Next
+// The word, as many numbers as are lent, each at most the limit, and the line feed. Where no such line stands there, the numbers are 0.
+pub fn read_line(
+    text: &[u8],
+    spot: usize,
+    word: &[u8],
+    limit: u64,
+    numbers: &mut [u64],
+) -> Option<usize>
     ensures { ReadLine text.now spot word.now limit numbers.old result numbers.new }
 {
-    match try_line(text, spot, word, limit, numbers) {
-        Next::Spot(next) => Next::Spot(next),
-        Next::Nothing => {
-            clear(numbers);
-            Next::Nothing
-        }
+    let next = try_line(text, spot, word, limit, numbers);
+    if next.is_none() {
+        numbers.fill(0);
     }
+    next
 }

@@ -1,52 +1,33 @@
-// Reading at a spot. Each leaf answers the spot past what it found, or that it found nothing.
-ghost use Rattle.std.specs.Prelude.{◌≡◌, [], ◌∷◌};
+// Reading at a spot. Each leaf answers the spot past what it found, and a number with it, or that it found nothing.
+ghost use Rattle.std.specs.Prelude.{◌≡◌, [], ◌∷◌, drop};
+ghost use Rattle.std.specs.List.{list_all};
 ghost use Rattle.text.specs.Words.{word_at, is_square, body_at};
-ghost use Rattle.text.specs.Decimal.{is_digit_byte, digits_at, number_at, field_at};
+ghost use Rattle.text.specs.Decimal.{plain, digits_at, number_at, field_at};
 
-use crate::glyphs::{COPPER, NINE, NONE, TAB, ZERO};
+use crate::glyphs::{COPPER, NONE, TAB, ZERO};
 
-// The spot past what stood where it was looked for.
-#[derive(Clone, Copy)]
-pub enum Next {
-    Spot(usize),
-    Nothing,
+// The text from the spot on: nothing, past its end.
+fn rest(text: &[u8], spot: usize) -> &[u8]
+    ensures { result.now ≡ drop spot text.now }
+{
+    &text[spot.min(text.len())..]
 }
 
-// A number and the spot past its digits.
-#[derive(Clone, Copy)]
-pub enum Number {
-    Value(u64, usize),
-    Nothing,
-}
-
-pub fn read_word(text: &[u8], spot: usize, word: &[u8]) -> Next
+pub fn read_word(text: &[u8], spot: usize, word: &[u8]) -> Option<usize>
     ensures { result ≡ word_at text.now spot word.now }
 {
-    let mut at = spot;
-    for k in 0..word.len() {
-        if text.len() <= at {
-            return Next::Nothing;
-        }
-        if text[at] != word[k] {
-            return Next::Nothing;
-        }
-        at += 1;
+    if rest(text, spot).starts_with(word) {
+        Some(spot + word.len())
+    } else {
+        None
     }
-    Next::Spot(at)
 }
 
 // A tab, a line feed.
-pub fn read_byte(text: &[u8], spot: usize, byte: u8) -> Next
+pub fn read_byte(text: &[u8], spot: usize, byte: u8) -> Option<usize>
     ensures { result ≡ word_at text.now spot (byte ∷ []) }
 {
-    if text.len() <= spot {
-        return Next::Nothing;
-    }
-    if text[spot] == byte {
-        Next::Spot(spot + 1)
-    } else {
-        Next::Nothing
-    }
+    read_word(text, spot, &[byte])
 }
 
 fn is_square(character: u8) -> bool
@@ -55,78 +36,61 @@ fn is_square(character: u8) -> bool
     character == COPPER || character == NONE
 }
 
-// A row's body: as many squares as the width.
-pub fn read_body(text: &[u8], spot: usize, width: usize) -> Next
-    ensures { result ≡ body_at text.now spot width }
+fn all_squares(characters: &[u8]) -> bool
+    ensures { result ≡ list_all is_square characters.now }
 {
-    let mut at = spot;
-    for k in 0..width {
-        if text.len() <= at {
-            return Next::Nothing;
-        }
-        if !is_square(text[at]) {
-            return Next::Nothing;
-        }
-        at += 1;
-    }
-    Next::Spot(at)
+    characters.iter().all(|c| is_square(*c))
 }
 
-fn is_digit(byte: u8) -> bool
-    ensures { result ≡ is_digit_byte byte }
+// A row's body: as many squares as the width.
+pub fn read_body(text: &[u8], spot: usize, width: usize) -> Option<usize>
+    ensures { result ≡ body_at text.now spot width }
 {
-    ZERO <= byte && byte <= NINE
+    let body = rest(text, spot).get(..width)?;
+    all_squares(body).then_some(spot + width)
 }
 
 // All digits that stand at the spot, as a number up to the limit, leading zeros and no digit at all let through.
-fn read_digits(text: &[u8], spot: usize, limit: u64) -> Number
+fn read_digits(text: &[u8], spot: usize, limit: u64) -> Option<(u64, usize)>
     ensures { result ≡ digits_at text.now spot limit }
 {
     let mut value: u64 = 0;
     let mut at = spot;
-    while at < text.len() {
-        let byte = text[at];
-        if !is_digit(byte) {
-            return Number::Value(value, at);
+    for byte in rest(text, spot) {
+        if !byte.is_ascii_digit() {
+            break;
         }
-        let digit = (byte - ZERO) as u64;
-        if limit < digit {
-            return Number::Nothing;
+        value = value.checked_mul(10)?.checked_add(u64::from(*byte - ZERO))?;
+        if limit < value {
+            return None;
         }
-        if (limit - digit) / 10 < value {
-            return Number::Nothing;
-        }
-        value = value * 10 + digit;
         at += 1;
     }
-    Number::Value(value, at)
+    Some((value, at))
 }
 
-pub fn read_number(text: &[u8], spot: usize, limit: u64) -> Number
+// No digit is no number, and no zero leads another digit.
+fn is_plain(digits: &[u8]) -> bool
+    ensures { result ≡ plain digits.now }
+{
+    match digits {
+        [] => false,
+        [first, _, ..] => *first != ZERO,
+        _ => true,
+    }
+}
+
+pub fn read_number(text: &[u8], spot: usize, limit: u64) -> Option<(u64, usize)>
     ensures { result ≡ number_at text.now spot limit }
 {
-    let Number::Value(value, next) = read_digits(text, spot, limit) else {
-        return Number::Nothing;
-    };
-    if next == spot {
-        return Number::Nothing;
-    }
-    if text[spot] != ZERO {
-        return Number::Value(value, next);
-    }
-    if next == spot + 1 {
-        Number::Value(value, next)
-    } else {
-        Number::Nothing
-    }
+    let (value, next) = read_digits(text, spot, limit)?;
+    is_plain(&rest(text, spot)[..next - spot]).then_some((value, next))
 }
 
 // A tab and a number.
-pub fn read_field(text: &[u8], spot: usize, limit: u64) -> Number
+pub fn read_field(text: &[u8], spot: usize, limit: u64) -> Option<(u64, usize)>
     ensures { result ≡ field_at text.now spot limit }
 {
-    let Next::Spot(at) = read_byte(text, spot, TAB) else {
-        return Number::Nothing;
-    };
+    let at = read_byte(text, spot, TAB)?;
     read_number(text, at, limit)
 }

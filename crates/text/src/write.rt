@@ -2,7 +2,7 @@
 ghost use Rattle.std.specs.Prelude.{◌≡◌, [], ◌∷◌, map, ◌+◌, ◌≤◌, ◌<◌, length};
 ghost use Rattle.text.specs.Words.{chosen, glyph, square};
 ghost use Rattle.grid.specs.Rooms.{Written};
-ghost use Rattle.text.specs.Decimal.{decimal, field};
+ghost use Rattle.text.specs.Decimal.{decimal, field, last_digits};
 
 use crate::glyphs::{COPPER, NONE, TAB, ZERO};
 use grid::limits::SIDE;
@@ -26,8 +26,8 @@ fn put_chosen(room: &mut [u8], spot: usize, bytes: &[u8], key: u8, hit: u8, miss
     requires { spot + length bytes.now ≤ length room.old }
     ensures { Written room.old spot (map (chosen key hit miss) bytes.now) result room.new }
 {
-    for k in 0..bytes.len() {
-        room[spot + k] = chosen_of(key, hit, miss, bytes[k]);
+    for (k, byte) in bytes.iter().enumerate() {
+        room[spot + k] = chosen_of(key, hit, miss, *byte);
     }
     spot + bytes.len()
 }
@@ -60,31 +60,33 @@ pub const SIDE_DIGITS: usize = 1
 
 // How many digits a number has.
 pub fn digit_count(value: u64) -> usize
-    ensures { result ≡ length (decimal value) }
+    ensures value { result ≡ length (decimal value) }
+    ensures most { result ≤ 20 }
 {
-    let mut rest = value;
-    let mut count = 1;
-    while 10 <= rest {
-        rest /= 10;
-        count += 1;
+    match value.checked_ilog10() {
+        Some(tens) => tens as usize + 1,
+        None => 1,
     }
-    count
 }
 
-// The digits, from the last to the first.
+// The last digits of a number, as many as count.
+pub fn put_digits(room: &mut [u8], spot: usize, count: usize, value: u64) -> usize
+    requires { spot + count ≤ length room.old }
+    ensures { Written room.old spot (last_digits count value) result room.new }
+{
+    let mut rest = value;
+    for k in (0..count).rev() {
+        room[spot + k] = ZERO + (rest % 10) as u8;
+        rest /= 10;
+    }
+    spot + count
+}
+
 pub fn print_number(room: &mut [u8], spot: usize, value: u64) -> usize
     requires { spot + length (decimal value) ≤ length room.old }
     ensures { Written room.old spot (decimal value) result room.new }
 {
-    let next = spot + digit_count(value);
-    let mut rest = value;
-    let mut at = next;
-    while spot < at {
-        at -= 1;
-        room[at] = ZERO + (rest % 10) as u8;
-        rest /= 10;
-    }
-    next
+    put_digits(room, spot, digit_count(value), value)
 }
 
 // A tab and a number.

@@ -97,3 +97,6 @@ module _ (n : ℕ) where
         same : (m : ℕ) → m ≤ n → first (on (2 ^ n - 1 - w)) (down m) ≡ first (λ k. not (on w k)) (down m)
         same zero h = refl
         same (suc m) h = rw (turned m h, same m (omega arith))
+
+-- what the goals of the functions of one operation close by
+pub ruleset steps = (on_and, on_or, on_xor, is-on-bit, turned_up)

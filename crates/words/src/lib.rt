@@ -1,5 +1,5 @@
 // The bits of a machine word. Contracts speak of single bits, so that no caller reasons about shifts and masks.
-#![tactic(auto)]
+#![tactic(auto, using(crate::proofs::Operations::steps))]
 
 ghost use Rattle.std.specs.Prelude.{◌≡◌, cond, not, ◌&&◌, ◌||◌, ◌+◌, ◌-◌, ◌<◌, ◌≤◌, eqb, ltb};
 ghost use Rattle.lists.specs.Lists as List;
@@ -7,7 +7,7 @@ ghost use Rattle.lists.specs.Lists.{first, down};
 ghost use Rattle.grid.specs.Code.{or_end};
 ghost use Rattle.words.specs.Words.{bits, on, Bits, past_of};
 // The machine's number, not a limit of the grid; with another one the proofs fail.
-pub const BITS: usize = 64;
+pub const BITS: usize = u64::BITS as usize;
 
 pub fn is_on(w: u64, k: usize) -> bool
     requires { k < bits }

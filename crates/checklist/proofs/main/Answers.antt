@@ -1,9 +1,7 @@
 -- As many bytes are read as the rooms hold, and as many are written out as were printed.
 use mathlib.Core.Path.{sym}
 use lib.Seq.{length-take-le}
-use borrow.Author.Rules.{rules}
-use Rattle.text.specs.Decimal.{digits, decimal}
-use Rattle.checklist.proofs.Program.{within}
+use Rattle.printed.proofs.Forms.{within}
 use Rattle.checklist.proofs.main.Goals as goal
 
 pub slice_bounds-out-end : goal.slice_bounds-out-end
@@ -11,7 +9,3 @@ slice_bounds-out-end c = within c.answer-printed.ensures
 
 pub slice_bounds-write_all-end : goal.slice_bounds-write_all-end
 slice_bounds-write_all-end c = let a = c.answer-printed in sym (length-take-le a.result a.new.out (within a.ensures))
-
-pub answer-printed-requires : goal.answer-printed-requires
-unfolding decimal digits
-answer-printed-requires c = search rules

@@ -1,11 +1,6 @@
--- `seed` is safe and ends: each number stays below what `following` gives.
-use mathlib.Core.Path.{◌≡◌}
-use Prim.Native.Nat.{◌≤◌, ◌<◌, ◌-◌}
-use lib.ListN.{length}
+-- `seed` is safe: each number stays below what `following` gives.
+use Prim.Native.Nat.{◌<◌}
 use Rattle.finals.proofs.seed.Given as goal
 
-abbrev pub invariant-loop-k : goal.invariant-loop-k
-invariant-loop-k l = (l.k ≤ l.k-end) × (l.k-end ≡ length l.name) × (l.number < 2147483648)
-
-abbrev pub decreases-loop-k : goal.decreases-loop-k
-decreases-loop-k l = l.k-end - l.k
+abbrev pub invariant-loop-b : goal.invariant-loop-b
+invariant-loop-b l = l.number < 2147483648

@@ -1,9 +1,7 @@
 -- As many bytes are written out as were printed, which is within the print room.
 use mathlib.Core.Path.{sym}
 use lib.Seq.{length-take-le}
-use borrow.Author.Rules.{rules}
-use Rattle.text.specs.Decimal.{digits, decimal}
-use Rattle.flashlist.proofs.Program.{within}
+use Rattle.printed.proofs.Forms.{within}
 use Rattle.flashlist.proofs.main.Goals as goal
 
 pub slice_bounds-out-end : goal.slice_bounds-out-end
@@ -12,7 +10,3 @@ slice_bounds-out-end c = within c.answer-printed.ensures
 pub slice_bounds-write_all-end : goal.slice_bounds-write_all-end
 slice_bounds-write_all-end c = let a = c.answer-printed in
     sym (length-take-le a.result a.new.out (within a.ensures))
-
-pub answer-printed-requires : goal.answer-printed-requires
-unfolding decimal digits
-answer-printed-requires c = search rules

@@ -1,7 +1,7 @@
 -- As many bytes are written out as were printed.
 use mathlib.Core.Path.{sym}
 use lib.Seq.{length-take-le}
-use Rattle.gerberfile.proofs.Texts.{within}
+use Rattle.printed.proofs.Forms.{within}
 use Rattle.gerberfile.proofs.main.Goals as goal
 
 pub slice_bounds-out-end : goal.slice_bounds-out-end

@@ -3,7 +3,8 @@ use Rattle.std.proofs.Common.{arith}
 use lib.ListN.{replicate}
 use Rattle.grid.specs.Limits.{mark_room_size}
 use Rattle.listcheck.proofs.Few.{few-marks}
-use Rattle.checklist.proofs.Program.{as_text, given-text}
+use Rattle.printed.proofs.Forms.{as_text}
+use Rattle.checklist.proofs.Program.{given-text}
 use Rattle.checklist.proofs.answer.print_check.Goals as goal
 
 pub print_checked-requires : goal.print_checked-requires

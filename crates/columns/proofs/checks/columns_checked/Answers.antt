@@ -1,5 +1,5 @@
 -- `columns_checked` meets its contract: where every byte fits both checks pass, and else they are asked for their place; bottoms and ends are those of all rows.
-use mathlib.Core.Path.{sym, ◌∙◌}
+use mathlib.Core.Path.{sym}
 use mathlib.Core.List.{List}
 use Prim.Native.Nat.{ℕ}
 use Rattle.grid.specs.Squares.{Area}
@@ -18,9 +18,9 @@ high-done : (a : Area) (w h : ℕ) {before after : List ℕ} → Filled w (end_t
 high-done a w h R = filled_as w _ _ (λ c l. end-top a c h) R
 
 pub returns-then-take_rows-eq0 : goal.returns-then-take_rows-eq0
-returns-then-take_rows-eq0 c = let z = c.requires.sized in
+returns-then-take_rows-eq0 c = let z = c.args.raster.sized in
     let R = c.take_rows.ensures in record {
-      value = c.done.ensures ∙ sym (all_pass _ _ _ z.wide z.full (R.fit c.if-take_rows-eq0.true));
+      value = sym (all_pass _ _ _ z.wide z.full (R.fit c.if-take_rows-eq0.true));
       filled = low-done _ _ _ R.low;
       filled_2 = high-done _ _ _ R.high;
     }
@@ -31,6 +31,3 @@ returns c = let R = c.take_rows.ensures in record {
   filled = low-done _ _ _ R.low;
   filled_2 = high-done _ _ _ R.high;
 }
-
-pub take_rows-requires : goal.take_rows-requires
-take_rows-requires c = c.requires

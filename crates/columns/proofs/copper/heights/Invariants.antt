@@ -1,11 +1,17 @@
--- `heights` meets its contract. The loop's invariant: `n` is the sum over the columns before `c`.
+-- `heights` meets its contract. The loop's invariant: `n` is the sum over the columns that were seen, and the others are left.
 use mathlib.Core.Path.{◌≡◌}
-use Prim.Native.Nat.{◌-◌, ◌*◌, ◌≤◌}
+use Prim.Native.Nat.{◌*◌, ◌≤◌}
+use lib.ListN.{length, take, drop}
 use Rattle.columns.specs.Columns.{heights_to}
 use Rattle.columns.proofs.copper.heights.Given as goal
 
-abbrev pub invariant-loop-c : goal.invariant-loop-c
-invariant-loop-c l = (l.n ≡ heights_to l.c l.bottoms l.ends) × (l.n ≤ l.c * 255) × (l.c ≤ l.width)
-
-abbrev pub decreases-loop-c : goal.decreases-loop-c
-decreases-loop-c l = l.width - l.c
+abbrev pub invariant-loop-bottom : goal.invariant-loop-bottom
+invariant-loop-bottom l = record {
+  can_next : (goal.iterator-loop-bottom).can_next l.bottom-iterator;
+  finite : (goal.iterator-loop-bottom).is_finite l.bottom-iterator;
+  low : l.bottom-iterator.a.rest.now ≡ drop (length l.yielded) (take l.width l.bottoms);
+  high : l.bottom-iterator.b.rest.now ≡ drop (length l.yielded) (take l.width l.ends);
+  sum : l.n ≡ heights_to (length l.yielded) l.bottoms l.ends;
+  small : l.n ≤ length l.yielded * 255;
+  few : length l.yielded ≤ l.width;
+}

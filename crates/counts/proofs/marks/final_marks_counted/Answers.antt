@@ -1,32 +1,27 @@
--- `final_marks_counted` meets its contract: a copy of the set, the brackets of its final set, and the marks of both. There are as many marks as intervals of the final set.
+-- `final_marks_counted` meets its contract: the set, the brackets of its final set, and the marks of both. There are as many marks as intervals of the final set.
 use Rattle.std.proofs.Common.{arith}
-use mathlib.Core.Path.{refl, ap, ◌∙◌}
-use lib.ListN.{length}
-use Rattle.method.specs.Strike.{marked}
-use Rattle.method.proofs.Marks.{marked-length}
-use Rattle.grid.specs.Limits.{bag_room}
-use Rattle.intervals.specs.Table.{set_of}
-use Rattle.intervals.proofs.TableLaws.{set-listed}
-use Rattle.counts.specs.Marks.{noted_for}
-use Rattle.counts.proofs.FinalMarks.{both-held, room-long}
+use mathlib.Core.Path.{refl, ◌∙◌}
+use Rattle.grid.specs.Limits.{bag_room, lines}
+use Rattle.counts.proofs.MarkTurns.{marks-final}
+use Rattle.counts.proofs.FinalMarks.{both-held, bag_fits, room-long, set_comes, bag_comes, all_tallied}
+use Rattle.counts.proofs.Turns.{onward-start}
 use Rattle.counts.proofs.marks.final_marks_counted.Goals as goal
 
-pub final_set_swept-bags-requires : goal.final_set_swept-bags-requires
-final_set_swept-bags-requires c = record {
-  tabled = c.requires.tabled;
-  roomy = omega (arith, c.requires.bracket_record_in_bounds.1, room-long bag_room refl);
+pub invariant_of-left-3 : goal.invariant_of-left-3
+invariant_of-left-3 c = record { fits = bag_fits c.args.t.now c.final_set_swept-left.ensures.finished c.requires.1 (room-long bag_room refl) }
+
+pub enter_set-requires : goal.enter_set-requires
+enter_set-requires c = set_comes c.args.t.now _ (both-held c.args.t.now c.final_set_swept-left.ensures.finished) lines refl
+
+pub enter-requires : goal.enter-requires
+enter-requires c = bag_comes c.args.t.now _ (both-held c.args.t.now c.final_set_swept-left.ensures.finished) lines refl c.enter_set.ensures
+
+pub note_marks-requires-clause-kept : goal.note_marks-requires-clause-kept
+note_marks-requires-clause-kept c = record {
+  tallies = all_tallied c.args.t.now _ (both-held c.args.t.now c.final_set_swept-left.ensures.finished) lines refl c.enter_set.ensures c.enter.ensures;
+  none_begins = λ i m. omega arith;
+  onward = onward-start _ _ _;
 }
 
-pub mark_set-requires : goal.mark_set-requires
-mark_set-requires c = record {
-  bagged = both-held c.requires.tabled c.copy.ensures c.requires.bracket_record_in_bounds.1 c.final_set_swept-bags.ensures (room-long bag_room refl);
-  bracket_record_in_bounds = c.requires.bracket_record_in_bounds.0;
-}
-
-pub returns : goal.returns
-returns c = let a = c.args in
-    let n = a.last.0 in record {
-      value = c.mark_set.ensures.value ∙ ap (λ z. length (marked n (set_of n z))) c.copy.ensures ∙ marked-length n (set_of n a.t.now) (set-listed n a.t.now);
-      t_after = c.final_set_swept-bags.ensures.set;
-      noted_after = c.mark_set.ensures.noted_after ∙ ap (λ z. noted_for (marked n (set_of n z)) a.noted.now) c.copy.ensures;
-    }
+pub returns-clause-value : goal.returns-clause-value
+returns-clause-value c = c.note_marks.ensures.value ∙ marks-final c.args.t.now

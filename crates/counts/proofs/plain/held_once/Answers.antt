@@ -1,24 +1,38 @@
--- `held_once` meets its contract. The loop's invariant: the leftmost column that is held once is the leftmost from `c` on.
-use Rattle.std.proofs.Common.{arith}
-use mathlib.Core.Path.{sym, ap, ◌∙◌}
-use borrow.Author.Tests.{eq-eqb, ne_eqb}
+-- `held_once` meets its contract: a search over the columns from the left.
+use Rattle.std.proofs.Common.{arith, rules, tests}
+use Rattle.std.proofs.lemmas.Iterator.{first_from_Range}
+use Rattle.std.specs.Prelude.{MatchOption, IsSomeAnd, Some, None}
+use Rattle.std.specs.Prelude.{Option as Found}
+use mathlib.Core.Path.{◌≡◌, sym, ap, ◌∙◌}
+use mathlib.Core.Bool.{Bool, true, false}
+use Prim.Native.Nat.{ℕ, ◌≤◌, ◌<◌}
 use lib.Dec.{eqb}
+use Rattle.lists.specs.Lists.{count, first, up_to}
+use Rattle.lists.proofs.Searches.{first-least, first-nowhere}
+use Rattle.method.specs.Intervals.{holds}
 use Rattle.method.specs.Strike.{held_once}
-use Rattle.grid.proofs.Edges.{number}
+use Rattle.grid.specs.Lines.{column}
+use Rattle.grid.specs.declared.lines.Column.{Column}
+use Rattle.intervals.specs.Spans.{spans}
+use Rattle.intervals.specs.declared.Table.{Table}
 use Rattle.counts.specs.Marks.{once_of}
-use Rattle.lists.proofs.Passes.{up-all, up-here, up-on, up-end}
-use Rattle.counts.proofs.plain.held_once.Invariants.{once}
 use Rattle.counts.proofs.plain.held_once.Goals as goal
 
-pub loop-c-init : goal.loop-c-init
-unfolding held_once
-loop-c-init c = let g = c.args in (up-all (once g.last.0 g.t.now) _, ap number c.column_after-end.ensures)
+-- what `find` and `map` tell of the first number that passes
+as_found : (p : ℕ → Bool) (n : ℕ) (r : Found ℕ) (out : Found Column)
+    → MatchOption r ((k : ℕ) → 0 ≤ k → k < n → p k ≡ false) (λ i. (0 ≤ i) × (i < n) × (p i ≡ true) × ((k : ℕ) → 0 ≤ k → k < i → p k ≡ false))
+    → MatchOption r (out ≡ None) (λ x. IsSomeAnd out (λ c. c ≡ column x)) → out ≡ once_of (first p (up_to n))
+as_found p n None out d m = m ∙ ap once_of (sym (first-nowhere p 0 n (λ y l u. d y l (omega arith))))
+as_found p n (Some i) (Some c) d m = ap Some m ∙ ap once_of (sym (first-least p 0 n i d.0 (omega (arith, d.1)) d.2 d.3))
+as_found p n (Some i) None d m = absurd m
 
-pub returns-then-held-eq1 : goal.returns-then-held-eq1
-returns-then-held-eq1 c = sym (ap once_of (c.loop-c.invariant.0 ∙ up-here _ _ _ (omega arith) (ap (λ n. eqb n 1) (sym c.held.ensures) ∙ eq-eqb _ _ c.if-held-eq1.true)))
-
-pub loop-c-preserved : goal.loop-c-preserved
-loop-c-preserved c = (c.loop-c.invariant.0 ∙ up-on _ _ _ (omega arith) (ap (λ n. eqb n 1) (sym c.held.ensures) ∙ ne_eqb _ _ c.if-held-eq1.false), omega arith)
+abbrev once : Table → ℕ → Bool
+once t c = eqb (count (holds c) (spans t)) 1
 
 pub returns : goal.returns
-returns c = sym (ap once_of (c.loop-c.invariant.0 ∙ up-end _ _ _ (omega arith)))
+unfolding held_once
+returns c =
+    let t = c.args.t.now in
+    as_found (once t) t.last.0 c.find.result c.map.result
+    (first_from_Range _ _ _ _ (λ i. once t i ≡ true) (λ i. once t i ≡ false) c.find.ensures.ran (λ x q k. grind (arith, tests)) (λ x q k. (search rules, grind (arith, tests))))
+    (search rules)

@@ -14,16 +14,11 @@ put_flash-requires c =
     (drawn, omega arith, omega arith)
 
 pub area-requires : goal.area-requires
-area-requires c =
-    let drawn : Drawn (rectangle_of c.flash_of-q.result) =
-    subst Drawn (sym c.flash_of-q.ensures) (stands-drawn _ _ (span_of c.args.i) c.requires.standing) in
-    drawn
+area-requires c = subst Drawn (sym c.flash_of-q.ensures) (stands-drawn _ _ (span_of c.args.i) c.requires.standing)
 
 pub overflow_add-result-2 : goal.overflow_add-result-2
 overflow_add-result-2 c =
-    let drawn : Drawn (rectangle_of c.flash_of-q.result) =
-    subst Drawn (sym c.flash_of-q.ensures) (stands-drawn _ _ (span_of c.args.i) c.requires.standing) in
-    let b = area_small _ (drawn) in
+    let b = area_small _ (subst Drawn (sym c.flash_of-q.ensures) (stands-drawn _ _ (span_of c.args.i) c.requires.standing)) in
     let d = c.requires.ready in
     omega (arith, c.area.ensures, d.small, d.short)
 

@@ -1,11 +1,7 @@
 -- `write_marks` meets its contract. The loop's invariant: the first marks of the columns before c are added to none.
-use Prim.Native.Nat.{◌-◌, ◌≤◌}
 use lib.ListN.{take}
 use Rattle.cover.specs.Code.{row_between, marks_noted, MarksAdded}
 use Rattle.cover.proofs.marks.write_marks.Given as goal
 
 abbrev pub invariant-loop-c : goal.invariant-loop-c
-invariant-loop-c l = MarksAdded (take l.most (marks_noted (row_between l.last.0 l.bottoms l.ends) l.noted l.c)) l.initial.room 0 l.n l.room × (l.c ≤ l.c-end)
-
-abbrev pub decreases-loop-c : goal.decreases-loop-c
-decreases-loop-c l = l.c-end - l.c
+invariant-loop-c l = MarksAdded (take l.most (marks_noted (row_between l.last.0 l.edges.bottoms.now l.edges.ends.now) l.noted l.c)) l.initial.room 0 l.n l.room

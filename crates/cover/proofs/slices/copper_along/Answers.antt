@@ -1,41 +1,21 @@
--- `copper_along` meets its contract. The loop's invariant: the row is copper along the interval if it is from column `c` on.
-use Rattle.std.proofs.Common.{arith}
-use mathlib.Core.Path.{◌≡◌, sym, ap, ◌∙◌}
+-- `copper_along` meets its contract: it asks all the interval's squares.
+use Rattle.std.proofs.Common.{◌-◌, refl, ◌∙◌, rules}
+use Rattle.std.proofs.lemmas.Iterator.{YieldsList-from_range}
+use Rattle.std.proofs.lemmas.Iterator.Search.{all_from_yields_List}
 use Rattle.method.specs.Intervals.{span}
-use Rattle.grid.specs.Lines.{span_of}
+use Rattle.grid.specs.Code.{area_in}
 use Rattle.grid.proofs.Edges.{number}
 use Rattle.cover.specs.Slices.{copper_along}
-use Rattle.grid.specs.Code.{area_in}
-use Rattle.cover.proofs.Along.{along-stop, along-on, along-end}
+use Rattle.cover.proofs.Along.{along-asked}
 use Rattle.cover.proofs.slices.copper_along.Goals as goal
-
-pub returns-then-not-is_copper : goal.returns-then-not-is_copper
-returns-then-not-is_copper c =
-    let left : let g = c.args in
-    copper_along (area_in g.size g.raster.now) g.row.0 (span_of g.i)
-    ≡ copper_along (area_in g.size g.raster.now) g.row.0 (span c.loop-c.c c.column_after-end.result.0) =
-    let g = c.args in
-    let from = ap number c.column_after-first.ensures in
-    let to = ap number c.column_after-end.ensures in
-    sym (λ k. copper_along (area_in g.size g.raster.now) g.row.0 (span (from k) (to k))) ∙ c.loop-c.invariant in
-    sym (left ∙ along-stop _ _ _ _ (omega arith) (sym c.is_copper.ensures ∙ c.if-not-is_copper.true))
-
-pub overflow_step-c : goal.overflow_step-c
-overflow_step-c c = omega arith
-
-pub loop-c-smaller : goal.loop-c-smaller
-loop-c-smaller c = omega arith
-
-pub loop-c-preserved : goal.loop-c-preserved
-loop-c-preserved c = c.loop-c.invariant ∙ along-on _ _ _ _ (omega arith) (sym c.is_copper.ensures ∙ c.if-not-is_copper.false)
 
 pub returns : goal.returns
 returns c =
-    let left : let g = c.args in
-    copper_along (area_in g.size g.raster.now) g.row.0 (span_of g.i)
-    ≡ copper_along (area_in g.size g.raster.now) g.row.0 (span c.loop-c.c c.column_after-end.result.0) =
     let g = c.args in
-    let from = ap number c.column_after-first.ensures in
-    let to = ap number c.column_after-end.ensures in
-    sym (λ k. copper_along (area_in g.size g.raster.now) g.row.0 (span (from k) (to k))) ∙ c.loop-c.invariant in
-    sym (left ∙ along-end _ _ _ _ (omega arith))
+    let a = area_in g.raster.size g.raster.bytes.now in
+    let y = g.row.0 in
+    let l = c.column_after-first.result.0 in
+    let r = c.column_after-end.result.0 in
+    all_from_yields_List (λ x. a x y) _ _ _ c.all.ensures.ran (YieldsList-from_range l r (r - l) (search rules) refl) (λ x b q k. search rules)
+    ∙ along-asked a y l r
+    ∙ (λ i. copper_along a y (span (number (c.column_after-first.ensures i)) (number (c.column_after-end.ensures i))))

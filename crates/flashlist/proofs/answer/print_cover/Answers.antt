@@ -2,7 +2,8 @@
 use Rattle.std.proofs.Common.{arith}
 use lib.ListN.{replicate}
 use Rattle.grid.specs.Limits.{flash_room_size, mark_room_size}
-use Rattle.flashlist.proofs.Program.{as_text, printable, given-text}
+use Rattle.printed.proofs.Forms.{as_text}
+use Rattle.flashlist.proofs.Program.{printable, given-text}
 use Rattle.flashlist.proofs.answer.print_cover.Goals as goal
 
 pub print_outcome-requires : goal.print_outcome-requires

@@ -1,17 +1,15 @@
--- The piece is printed and compared, and then what closes it.
+-- What is printed is the piece.
 use Rattle.std.proofs.Common.{arith}
-use mathlib.Core.Path.{sym, ◌∙◌}
-use Rattle.gerber.proofs.Compared.{length-fits, piece-none, piece_then}
+use mathlib.Core.Path.{sym, ap, ◌∙◌}
+use mathlib.Core.List.{◌++◌}
+use lib.Seq.{length-take-le}
+use Rattle.text.specs.Words.{word_at}
+use Rattle.gerber.proofs.Compared.{length_fits, printed}
 use Rattle.gerber.proofs.found.length_at.Goals as goal
 
-pub put_millimetres-end-requires : goal.put_millimetres-end-requires
-put_millimetres-end-requires c = omega (arith, length-fits c.args.value c.requires)
-
-pub slice_bounds-read_word-end : goal.slice_bounds-read_word-end
-slice_bounds-read_word-end c = omega (arith, length-fits c.args.value c.requires, c.put_millimetres-end.ensures.past)
-
-pub returns-in_default : goal.returns-in_default
-returns-in_default c = sym (piece-none _ _ _ c.put_millimetres-end.ensures (sym c.read_word.ensures ∙ c.in_default.is))
+pub slice_bounds-piece_at-end : goal.slice_bounds-piece_at-end
+slice_bounds-piece_at-end c = sym
+    (length-take-le _ c.put_millimetres-end.new.room (omega (arith, length_fits c.args.value c.requires, c.put_millimetres-end.ensures.past, c.put_millimetres-end.auto.room)))
 
 pub returns : goal.returns
-returns c = c.read_word-2.ensures ∙ sym (piece_then _ _ _ c.put_millimetres-end.ensures (sym c.read_word.ensures ∙ c.in-Spot.is))
+returns c = c.piece_at.ensures ∙ ap (λ p. word_at c.args.text.now c.args.spot (p ++ c.args.close.now)) (printed c.put_millimetres-end.ensures)

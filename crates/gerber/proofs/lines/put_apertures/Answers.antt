@@ -1,31 +1,27 @@
 -- The invariant: the lines of the sizes before the k-th are written, and the others are left.
-use Rattle.std.proofs.Common.{arith}
+use mathlib.Core.Path.{sym, subst}
 use Prim.Native.Nat.{◌+◌}
-use lib.ListN.{take, drop, get_or}
-use lib.Seq.{get_or-take}
-use Rattle.text.proofs.Onward.{start, fits_next, piece, whole}
+use lib.ListN.{drop, get_or}
+use Rattle.text.proofs.Onward.{Remains, start, fits_next, piece, whole}
 use Rattle.gerber.specs.File.{aperture_line, aperture_lines}
-use Rattle.gerber.specs.Code.{largest_code, coded_size, coded_sizes}
-use Rattle.gerber.proofs.Listing.{apertures-next, apertures-over, within-at}
+use Rattle.gerber.specs.declared.sizes.Size.{Size}
+use Rattle.gerber.proofs.Listing.{apertures-next, apertures-over}
 use Rattle.gerber.proofs.lines.put_apertures.Goals as goal
 
 pub loop-k-init : goal.loop-k-init
-loop-k-init c = (omega arith, start _ _ _ c.requires.sizes_in_bounds)
+loop-k-init c = let a = c.args in
+    subst (λ ss. Remains a.room.now a.spot (aperture_lines a.plane.pitch 0 a.apertures.now) a.room.now a.spot (aperture_lines a.plane.pitch 0 ss)) (sym c.sizes-size-items.ensures.are)
+    (start _ _ _ c.requires)
 
-pub put_aperture-at-requires : goal.put_aperture-at-requires
-put_aperture-at-requires c = let a = c.args in
-    let l = c.loop-k in
-    let few = c.requires.pitch_value.2 in record {
-      pitch_value = (c.requires.pitch_value.0, omega (arith, c.requires.pitch_value.1), omega (arith, within-at largest_code (take a.count a.sizes.now) c.requires.pitch_value.3 l.k, get_or-take a.count a.sizes.now l.k 0 (omega arith)));
-      size_in_bounds = fits_next l.invariant.1 (aperture_line a.pitch l.k (coded_size (get_or a.sizes.now l.k 0))) (aperture_lines a.pitch (l.k + 1) (coded_sizes (drop (l.k + 1) (take a.count a.sizes.now)))) (apertures-next a.pitch a.sizes.now a.count few l.k (omega arith));
-    }
+pub put_aperture-at-requires-clause-fits : goal.put_aperture-at-requires-clause-fits
+put_aperture-at-requires-clause-fits c = let p = c.args.plane.pitch in
+    let sizes = c.sizes-size-items.result.now in
+    let k = c.loop-k.k in
+    let d : Size = record { wide = 0; high = 0 } in
+    fits_next c.loop-k.invariant (aperture_line p k (get_or sizes k d)) (aperture_lines p (k + 1) (drop (k + 1) sizes)) (apertures-next p sizes k d c.loop-k-test.true)
 
 pub loop-k-preserved : goal.loop-k-preserved
-loop-k-preserved c = let a = c.args in
-    let l = c.loop-k in
-    (omega arith, piece l.invariant.1 _ _ (apertures-next a.pitch a.sizes.now a.count c.requires.pitch_value.2 l.k (omega arith)) c.put_aperture-at.ensures)
+loop-k-preserved c = piece c.loop-k.invariant _ _ (apertures-next c.args.plane.pitch c.sizes-size-items.result.now c.loop-k.k _ c.loop-k-test.true) c.put_aperture-at.ensures
 
 pub returns : goal.returns
-returns c = let a = c.args in
-    let l = c.loop-k in
-    whole l.invariant.1 (apertures-over a.pitch a.sizes.now a.count c.requires.pitch_value.2 l.k (omega arith))
+returns c = whole c.loop-k.invariant (apertures-over c.args.plane.pitch c.sizes-size-items.result.now c.loop-k.k c.loop-k-test.false)

@@ -7,23 +7,23 @@ use mir.Facts.{to_z-of_z}
 use Rattle.text.specs.Signed.{signed}
 use Rattle.text.proofs.Onward.{start, piece, last}
 use Rattle.gerber.specs.File.{flash_line}
-use Rattle.gerber.proofs.Pieces.{length-flash}
+use Rattle.gerber.proofs.Pieces.{length_flash}
 use Rattle.gerber.proofs.lines.put_flash.Goals as goal
 
 pub put_bytes-across-requires : goal.put_bytes-across-requires
-put_bytes-across-requires c = omega (arith, length-flash c.args.x c.args.y)
+put_bytes-across-requires c = omega (arith, length_flash c.args.x c.args.y)
 
 pub print_signed-upward-requires : goal.print_signed-upward-requires
-print_signed-upward-requires c = omega (arith, length-flash c.args.x c.args.y, ap (λ (z : ℤ). length (signed z)) (to_z-of_z c.ranges.x))
+print_signed-upward-requires c = omega (arith, length_flash c.args.x c.args.y, ap (λ (z : ℤ). length (signed z)) (to_z-of_z c.ranges.x))
 
 pub put_bytes-up-requires : goal.put_bytes-up-requires
-put_bytes-up-requires c = omega (arith, length-flash c.args.x c.args.y, ap (λ (z : ℤ). length (signed z)) (to_z-of_z c.ranges.x))
+put_bytes-up-requires c = omega (arith, length_flash c.args.x c.args.y, ap (λ (z : ℤ). length (signed z)) (to_z-of_z c.ranges.x))
 
 pub print_signed-end-requires : goal.print_signed-end-requires
-print_signed-end-requires c = omega (arith, length-flash c.args.x c.args.y, ap (λ (z : ℤ). length (signed z)) (to_z-of_z c.ranges.x), ap (λ (z : ℤ). length (signed z)) (to_z-of_z c.ranges.y))
+print_signed-end-requires c = omega (arith, length_flash c.args.x c.args.y, ap (λ (z : ℤ). length (signed z)) (to_z-of_z c.ranges.x), ap (λ (z : ℤ). length (signed z)) (to_z-of_z c.ranges.y))
 
 pub put_bytes-requires : goal.put_bytes-requires
-put_bytes-requires c = omega (arith, length-flash c.args.x c.args.y, ap (λ (z : ℤ). length (signed z)) (to_z-of_z c.ranges.x), ap (λ (z : ℤ). length (signed z)) (to_z-of_z c.ranges.y))
+put_bytes-requires c = omega (arith, length_flash c.args.x c.args.y, ap (λ (z : ℤ). length (signed z)) (to_z-of_z c.ranges.x), ap (λ (z : ℤ). length (signed z)) (to_z-of_z c.ranges.y))
 
 pub returns : goal.returns
 unfolding flash_line

@@ -1,19 +1,8 @@
 -- The pieces of the line, one after the other.
-use Rattle.std.proofs.Common.{arith}
 use mathlib.Core.Path.{refl}
 use Rattle.text.proofs.Onward.{start, piece, last}
 use Rattle.gerber.specs.File.{select_line}
-use Rattle.gerber.proofs.Pieces.{length-select}
 use Rattle.gerber.proofs.lines.put_select.Goals as goal
-
-pub put_bytes-number-requires : goal.put_bytes-number-requires
-put_bytes-number-requires c = omega (arith, length-select c.args.k)
-
-pub print_number-end-requires : goal.print_number-end-requires
-print_number-end-requires c = omega (arith, length-select c.args.k)
-
-pub put_bytes-requires : goal.put_bytes-requires
-put_bytes-requires c = omega (arith, length-select c.args.k)
 
 pub returns : goal.returns
 unfolding select_line

@@ -1,48 +1,33 @@
--- The invariant: what was asked is what is asked from here on, with the sizes of the table.
+-- The invariant: what was asked is what is asked from here on, behind the sizes so far.
 use Rattle.std.proofs.Common.{arith}
-use mathlib.Core.Path.{◌≡◌, refl, sym, ◌∙◌}
-use Prim.Native.Nat.{◌≤◌, ◌<◌}
-use lib.ListN.{length, length-set}
+use mathlib.Core.Path.{sym, ap, ◌∙◌}
+use mathlib.Core.List.{[], ◌∷◌}
+use Prim.Native.Nat.{◌+◌, ◌-◌}
+use lib.ListN.{length, length-append}
 use Rattle.grid.specs.Limits.{side}
-use Rattle.gerber.proofs.ApertureTurns.{apertures-stop, apertures-turn, apertures-all, one-held}
+use Rattle.gerber.specs.Reading.{read_apertures}
+use Rattle.gerber.proofs.ApertureTurns.{apertures-stop, apertures-over, apertures-turn, aperture-on_grid, told-past}
 use Rattle.gerber.proofs.read.read_apertures.Goals as goal
 
-pub loop-k-init : goal.loop-k-init
-loop-k-init c = (omega arith, refl, record { few = omega arith; held = omega arith; wide = λ j l. absurd (omega arith); high = λ j l. absurd (omega arith) }, refl)
-
-pub read_aperture-requires : goal.read_aperture-requires
-read_aperture-requires c = (c.requires.0, c.loop-k.invariant.2)
-
 pub returns-in_default : goal.returns-in_default
-returns-in_default c = let l = c.loop-k in
-    (sym (l.invariant.3 ∙ apertures-stop _ _ _ l.k l.at l.invariant.2 (sym c.read_aperture.ensures ∙ c.in_default.is)), l.invariant.2)
+returns-in_default c = let l = c.loop in
+    let e = told-past c.args.plane.pitch c.args.text.now l.apertures l.counter l.at l.invariant.0 (sym c.read_aperture.ensures ∙ c.in_default.is) in
+    sym (l.invariant.1 ∙ apertures-stop c.args.plane.pitch c.args.text.now l.apertures l.counter l.at l.invariant.0 e)
 
-pub loop-k-preserved : goal.loop-k-preserved
-loop-k-preserved c =
-    let long : side ≤ length c.loop-k.sizes =
-    omega (arith, c.loop-k.invariant.1, c.requires.1) in
-    let l = c.loop-k in
-    let e = sym c.read_aperture.ensures ∙ c.in-At.is in
-    let h : l.k < side = omega arith in (
-      omega arith,
-      simp length-set l.invariant.1,
-      one-held _ _ _ l.k l.at l.invariant.2 h (long) e,
-      l.invariant.3 ∙ apertures-turn _ _ _ l.k l.at l.invariant.2 h (long) e,
+pub push-requires : goal.push-requires
+push-requires c = let l = c.loop in
+    let e = told-past c.args.plane.pitch c.args.text.now l.apertures l.counter l.at l.invariant.0 (sym c.read_aperture.ensures ∙ c.in-Some.is) in
+    (omega (arith, l.invariant.0, c.loop-test.true), aperture-on_grid c.args.plane.pitch c.args.text.now l.apertures l.counter l.at l.invariant.0 e)
+
+pub loop-preserved : goal.loop-preserved
+loop-preserved c = let l = c.loop in
+    let e = told-past c.args.plane.pitch c.args.text.now l.apertures l.counter l.at l.invariant.0 (sym c.read_aperture.ensures ∙ c.in-Some.is) in (
+      omega (arith, l.invariant.0, ap length c.push.ensures, length-append l.apertures (c.in-Some.size ∷ [])),
+      l.invariant.1
+          ∙ apertures-turn c.args.plane.pitch c.args.text.now l.apertures l.counter l.at l.invariant.0 e c.loop-test.true
+          ∙ ap (λ ss. read_apertures (side - (l.counter + 1)) c.args.plane.pitch c.args.text.now (record { sizes = ss; past = c.in-Some.next })) (sym c.push.ensures),
     )
 
 pub returns : goal.returns
-returns c = let l = c.loop-k in
-    let e : l.k ≡ side = omega arith in
-    apertures-all _ _ _ l.k l.at l.invariant.2 e l.invariant.3
-
-pub shape_of-sizes-in_default : goal.shape_of-sizes-in_default
-shape_of-sizes-in_default c = c.loop-k.invariant.1
-
-pub bounds-sizes-k : goal.bounds-sizes-k
-bounds-sizes-k c =
-    let long : side ≤ length c.loop-k.sizes =
-    omega (arith, c.loop-k.invariant.1, c.requires.1) in
-    omega (arith, long)
-
-pub shape_of-sizes : goal.shape_of-sizes
-shape_of-sizes c = c.loop-k.invariant.1
+returns c = let l = c.loop in
+    sym (l.invariant.1 ∙ apertures-over c.args.plane.pitch c.args.text.now l.apertures l.counter l.at l.invariant.0 c.loop-test.false)

@@ -1,17 +1,29 @@
 -- A bad head, or the head, the apertures and the flashes.
-use mathlib.Core.Path.{subst}
-use mir.Facts.{to_z-of_z}
-use Rattle.gerber.specs.Parts.{HeadRead}
-use Rattle.gerber.proofs.ReadOutcomes.{file-bad-into, file-on-into}
+use Rattle.std.proofs.Common.{rules}
+use mathlib.Core.Path.{◌≡◌, sym, subst}
+use mathlib.Core.List.{[]}
+use Prim.Native.Nat.{◌+◌}
+use lib.ListN.{length}
+use Rattle.std.specs.Prelude.{None, Err}
+use Rattle.grid.specs.Limits.{side}
+use Rattle.gerber.specs.Reading.{read_flashes, read_file}
+use Rattle.gerber.specs.Parts.{HeadRead, ReadInto}
+use Rattle.gerber.proofs.ReadOutcomes.{file-bad, file-on}
 use Rattle.gerber.proofs.read.read_file.Goals as goal
 
-pub returns-in-Bad : goal.returns-in-Bad
-returns-in-Bad c = let a = c.args in
-    file-bad-into a.pitch a.x a.y a.text.now _ (subst (HeadRead a.text.now) c.in-Bad.is c.read_head-head.ensures)
+pub returns-in_err-spot : goal.returns-in_err-spot
+returns-in_err-spot c = let a = c.args in
+    let p = a.plane in
+    let told : c.from_residual.result ≡ Err c.in_err-spot.field-0.0 = search rules in
+    subst (λ r. ReadInto (read_file p.pitch p.x p.y a.text.now) r a.room.now) (sym told)
+    (file-bad p.pitch p.x p.y a.text.now _ (subst (HeadRead a.text.now) c.in_err-spot.was c.read_head.ensures))
 
-pub returns-in-Past : goal.returns-in-Past
-returns-in-Past c = let a = c.args in
-    let r = c.read_apertures-apertures.ensures in
-    let h = subst (HeadRead a.text.now) c.in-Past.is c.read_head-head.ensures in
+pub returns : goal.returns
+returns c = let a = c.args in
+    let p = a.plane in
     let f = c.read_flashes in
-    file-on-into a.pitch a.x a.y a.text.now c.read_apertures-apertures.new.sizes f.result f.new.room r.1.held h r.0 (rw (to_z-of_z c.ranges.x, to_z-of_z c.ranges.y) at f.ensures)
+    let r = c.read_apertures-apertures.result in
+    let told =
+    subst (λ ss. ReadInto (read_flashes side p.pitch p.x p.y a.text.now r.0 [] (record { line = 3 + length ss + 1; at = r.1; used = 0; current = None })) f.result f.new.room)
+    c.sizes.ensures.are f.ensures in
+    file-on p.pitch p.x p.y a.text.now f.result f.new.room (subst (HeadRead a.text.now) c.in_ok-spot.was c.read_head.ensures) c.read_apertures-apertures.ensures told

@@ -1,49 +1,48 @@
 -- The invariant: the flashes so far are in the room, and what was asked is what is asked of the turns that are left.
-use Rattle.std.proofs.Common.{arith}
-use mathlib.Core.Path.{sym, ◌∙◌}
+use Rattle.std.proofs.Common.{rules, arith}
+use mathlib.Core.Path.{◌≡◌, sym, ap, subst, ◌∙◌}
+use mathlib.Core.List.{[]}
 use Prim.Native.Nat.{◌≤◌, ◌<◌}
 use lib.ListN.{length}
-use mir.Facts.{to_z-of_z}
-use mir.Syntax.{w64}
-use mir.Val.{of_z, to_z}
+use Rattle.std.specs.Prelude.{Ok, Err}
 use Rattle.grid.specs.Limits.{side, flash_room_size}
+use Rattle.gerber.specs.Reading.{read_flashes}
+use Rattle.gerber.specs.Parts.{ReadInto}
 use Rattle.gerber.proofs.FlashTurns.{sofar, is-flash, turned-line, turn-over, turn-bad, turn-past, turn_on}
 use Rattle.gerber.proofs.TurnedFlash.{turned-flash}
 use Rattle.gerber.proofs.read.read_flashes.Goals as goal
 
-pub loop-line-init : goal.loop-line-init
-loop-line-init c = (c.requires.2, omega (arith, c.requires.3), sofar _ _ _ _ _ _ _)
+pub loop-flash-init : goal.loop-flash-init
+loop-flash-init c = (c.requires.1, omega (arith, c.requires.2), sofar _ _ _ _ _ _ _)
 
-pub take_turn-requires : goal.take_turn-requires
-take_turn-requires c = (c.requires.0, c.requires.1, c.loop-line.invariant.0, omega (arith, c.loop-line.invariant.1, c.loop-line.invariant.2.few))
-
-pub returns-in-Over : goal.returns-in-Over
-returns-in-Over c = rw (to_z-of_z c.ranges.x, to_z-of_z c.ranges.y) at (turn-over _ _ _ _ _ c.loop-line.invariant.2 (sym c.take_turn.ensures ∙ c.in-Over.is))
-
-pub returns-in-Bad : goal.returns-in-Bad
-returns-in-Bad c = rw (to_z-of_z c.ranges.x, to_z-of_z c.ranges.y) at (turn-bad _ _ _ _ _ c.loop-line.invariant.2 (sym c.take_turn.ensures ∙ c.in-Bad.is))
-
-pub returns-then-n-eq-SIDE : goal.returns-then-n-eq-SIDE
-returns-then-n-eq-SIDE c = rw (to_z-of_z c.ranges.x, to_z-of_z c.ranges.y) at (turn-past _ _ _ _ _ c.loop-line.invariant.2 c.if-n-eq-SIDE.true (sym c.take_turn.ensures ∙ c.in-Flash.is))
-
-pub put_record-requires : goal.put_record-requires
-put_record-requires c = let t = turned-flash c.args.pitch (to_z w64 (of_z w64 c.args.x)) (to_z w64 (of_z w64 c.args.y)) c.args.text.now c.args.count c.args.sizes.now c.requires.1 c.loop-line.s _ _ c.loop-line.invariant.0 (omega (arith, c.loop-line.invariant.1, c.loop-line.invariant.2.few)) (is-flash _ (sym c.take_turn.ensures ∙ c.in-Flash.is)) in
-    (t.0, omega (arith, c.loop-line.invariant.2.few, c.if-n-eq-SIDE.false), omega (arith, c.loop-line.invariant.2.as_long, c.requires.4))
-
-pub loop-line-preserved : goal.loop-line-preserved
-loop-line-preserved c = let t = turned-flash c.args.pitch (to_z w64 (of_z w64 c.args.x)) (to_z w64 (of_z w64 c.args.y)) c.args.text.now c.args.count c.args.sizes.now c.requires.1 c.loop-line.s _ _ c.loop-line.invariant.0 (omega (arith, c.loop-line.invariant.1, c.loop-line.invariant.2.few)) (is-flash _ (sym c.take_turn.ensures ∙ c.in-Flash.is)) in
-    let h : c.loop-line.n < side = omega (arith, c.loop-line.invariant.2.few, c.if-n-eq-SIDE.false) in
-    let r : flash_room_size ≤ length c.loop-line.room = omega (arith, c.loop-line.invariant.2.as_long, c.requires.4) in
-    (t.1, omega (arith, t.2, c.loop-line.invariant.1), turn_on _ _ _ _ _ c.loop-line.invariant.2 h r (sym c.take_turn.ensures ∙ c.in-Flash.is) c.put_record.ensures)
-
-pub shape_of-room-in-Over : goal.shape_of-room-in-Over
-shape_of-room-in-Over c = c.loop-line.invariant.2.as_long
-
-pub shape_of-room-in-Bad : goal.shape_of-room-in-Bad
-shape_of-room-in-Bad c = c.loop-line.invariant.2.as_long
+pub returns-in_err-flash : goal.returns-in_err-flash
+returns-in_err-flash c = let a = c.args in
+    let p = a.plane in
+    let told : c.from_residual.result ≡ Err c.in_err-flash.field-0.0 = search rules in
+    subst (λ r. ReadInto (read_flashes side p.pitch p.x p.y a.text.now a.apertures.now [] a.start) r c.loop-flash.room) (sym told)
+    (turn-bad _ _ _ _ _ c.loop-flash.invariant.2 (sym c.take_turn.ensures ∙ c.in_err-flash.was))
 
 pub overflow_sub-result : goal.overflow_sub-result
-overflow_sub-result c = omega (arith, turned-line _ _ _ _ _ _ (is-flash _ (sym c.take_turn.ensures ∙ c.in-Flash.is)))
+overflow_sub-result c = omega (arith, turned-line _ _ _ _ _ _ (is-flash _ (sym c.take_turn.ensures ∙ c.in_ok-flash.was ∙ ap Ok c.in-Some.is)))
 
-pub shape_of-room-then-n-eq-SIDE : goal.shape_of-room-then-n-eq-SIDE
-shape_of-room-then-n-eq-SIDE c = c.loop-line.invariant.2.as_long
+pub returns-then-n-eq-SIDE : goal.returns-then-n-eq-SIDE
+returns-then-n-eq-SIDE c = turn-past _ _ _ _ _ c.loop-flash.invariant.2 c.if-n-eq-SIDE.true (sym c.take_turn.ensures ∙ c.in_ok-flash.was ∙ ap Ok c.in-Some.is)
+
+pub put_flash-requires : goal.put_flash-requires
+put_flash-requires c = let l = c.loop-flash in
+    let a = c.args in
+    let t = turned-flash a.plane.pitch a.plane.x a.plane.y a.text.now a.apertures.now c.requires.0 l.s _ _ l.invariant.0 (omega (arith, l.invariant.1, l.invariant.2.few))
+    (is-flash _ (sym c.take_turn.ensures ∙ c.in_ok-flash.was ∙ ap Ok c.in-Some.is)) in
+    (t.0, omega (arith, l.invariant.2.few, c.if-n-eq-SIDE.false), omega (arith, l.invariant.2.as_long, c.requires.3))
+
+pub loop-flash-preserved : goal.loop-flash-preserved
+loop-flash-preserved c = let l = c.loop-flash in
+    let a = c.args in
+    let e = sym c.take_turn.ensures ∙ c.in_ok-flash.was ∙ ap Ok c.in-Some.is in
+    let t = turned-flash a.plane.pitch a.plane.x a.plane.y a.text.now a.apertures.now c.requires.0 l.s _ _ l.invariant.0 (omega (arith, l.invariant.1, l.invariant.2.few)) (is-flash _ e) in
+    let h : l.n < side = omega (arith, l.invariant.2.few, c.if-n-eq-SIDE.false) in
+    let r : flash_room_size ≤ length l.room = omega (arith, l.invariant.2.as_long, c.requires.3) in
+    (t.1, omega (arith, t.2, l.invariant.1), turn_on _ _ _ _ _ l.invariant.2 h r e c.put_flash.ensures)
+
+pub returns : goal.returns
+returns c = turn-over _ _ _ _ _ c.loop-flash.invariant.2 (sym c.take_turn.ensures ∙ c.in_ok-flash.was ∙ ap Ok c.in_default.is)

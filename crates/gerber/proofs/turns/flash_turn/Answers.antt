@@ -1,62 +1,51 @@
 -- No aperture is current, or a flash of the current one's size.
-use Rattle.std.proofs.Common.{arith}
-use mathlib.Core.Path.{◌≡◌, refl, sym, ap, ◌∙◌}
-use mathlib.Core.Option.{Option}
-use Prim.Native.Nat.{ℕ, zero, suc, ◌%◌, ◌≤◌, ◌<◌}
-use lib.ListN.{get_or}
-use mir.Facts.{to_z-of_z}
-use Rattle.grid.specs.Limits.{side, lines}
-use Rattle.grid.specs.Squares.{Rectangle}
-use Rattle.gerber.specs.Code.{coded_size}
-use Rattle.gerber.specs.Reading.{placed_at, flash_turn}
-use Rattle.gerber.specs.Parts.{turn_of}
-use Rattle.gerber.proofs.FlashRead.{none_current, one_current}
+use Rattle.std.proofs.Common.{rules, arith}
+use mathlib.Core.Path.{◌≡◌, sym, ap, subst, ◌∙◌}
+use Prim.Native.Nat.{◌+◌}
+use lib.ListN.{length}
+use Rattle.std.specs.Prelude.{Err}
+use Rattle.gerber.specs.File.{centre_line}
+use Rattle.gerber.specs.Code.{OnGrid}
+use Rattle.gerber.specs.Reading.{placed_at, size_at, flash_turn}
+use Rattle.gerber.specs.Parts.{bad_line, flash_found, turn_of}
+use Rattle.gerber.proofs.FlashRead.{turn-none, turn-some, none_current, one_current, refused-none, passed-some}
 use Rattle.gerber.proofs.turns.flash_turn.Goals as goal
 
--- one is current, and it is defined
-some-used : (n : ℕ) → (n ≡ 0 → ⊥) → 0 < n
-some-used zero h = absurd (h refl)
-some-used (suc n) h = omega arith
-
-pub returns-then-s-eq0 : goal.returns-then-s-eq0
-returns-then-s-eq0 c = let a = c.args in
-    none_current a.pitch a.x a.y a.text.now a.count a.sizes.now a.s c.if-s-eq0.true
-
-pub offset_bounds-sizes-current : goal.offset_bounds-sizes-current
-offset_bounds-sizes-current c =
-    let used : 0 < c.args.s.used =
-    some-used c.args.s.used c.if-s-eq0.false in
-    let defined : c.args.s.current < c.args.count =
-    c.requires.2.current (used) in
-    record { fits = omega (arith, defined, c.requires.1.few) }
+pub returns-in_err-current : goal.returns-in_err-current
+returns-in_err-current c = let a = c.args in
+    let none = refused-none a.s.current (bad_line a.s.line) (sym c.ok_or.ensures.value ∙ c.in_err-current.was) in
+    let told : c.from_residual.result ≡ Err (bad_line a.s.line) = search rules in
+    told ∙ none_current a.plane.pitch a.plane.x a.plane.y a.s a.text.now a.apertures.now none.0
 
 pub bounds-sizes-current : goal.bounds-sizes-current
-bounds-sizes-current c =
-    let used : 0 < c.args.s.used =
-    some-used c.args.s.used c.if-s-eq0.false in
-    let defined : c.args.s.current < c.args.count =
-    c.requires.2.current (used) in
-    omega (arith, defined, c.requires.1.held)
+bounds-sizes-current c = let a = c.args in
+    let some = passed-some a.s.current (bad_line a.s.line) (sym c.ok_or.ensures.value ∙ c.in_ok-current.was) in
+    omega (arith, c.requires.current c.in_ok-current.current some, ap length c.sizes.ensures.are)
 
 pub read_flash-requires : goal.read_flash-requires
-read_flash-requires c =
-    let used : 0 < c.args.s.used =
-    some-used c.args.s.used c.if-s-eq0.false in
-    let defined : c.args.s.current < c.args.count =
-    c.requires.2.current (used) in
-    let k : ℕ = c.args.s.current in
-    let d = defined in
-    let w = c.requires.1.wide k d in
-    let l : get_or c.args.sizes.now k 0 % lines ≤ side = omega arith in
-    (c.requires.0, w.0, w.1, c.requires.1.high k d, l, c.requires.2.line)
+read_flash-requires c = let a = c.args in
+    let k = c.in_ok-current.current in
+    let some = passed-some a.s.current (bad_line a.s.line) (sym c.ok_or.ensures.value ∙ c.in_ok-current.was) in
+    subst (λ ss. OnGrid (size_at ss k)) (sym c.sizes.ensures.are) (c.sizes.ensures.on_grid k _ (c.requires.current k some))
+
+pub returns-in_err-flash : goal.returns-in_err-flash
+returns-in_err-flash c = let a = c.args in
+    let p = a.plane in
+    let k = c.in_ok-current.current in
+    let some = passed-some a.s.current (bad_line a.s.line) (sym c.ok_or.ensures.value ∙ c.in_ok-current.was) in
+    let none = refused-none c.read_flash.result (bad_line a.s.line) (sym c.ok_or-2.ensures.value ∙ c.in_err-flash.was) in
+    let told : c.from_residual-in_err-flash.result ≡ Err (bad_line a.s.line) = search rules in
+    let size = ap (λ ss. flash_found (placed_at p.pitch p.x p.y a.text.now (size_at ss k) a.s.at) (λ q. a.s.at + length (centre_line p.pitch p.x p.y q))) (sym c.sizes.ensures.are) in
+    told
+    ∙ turn-none p.pitch p.x p.y a.s _ (size ∙ sym c.read_flash.ensures ∙ none.0)
+    ∙ ap (λ o. turn_of (flash_turn p.pitch p.x p.y a.s o)) (sym (one_current p.pitch p.x p.y a.s a.text.now a.apertures.now some))
 
 pub returns : goal.returns
-returns c =
-    let used : 0 < c.args.s.used =
-    some-used c.args.s.used c.if-s-eq0.false in
-    let defined : c.args.s.current < c.args.count =
-    c.requires.2.current (used) in
-    let a = c.args in
-    c.read_flash.ensures
-    ∙ (λ i. turn_of (flash_turn a.pitch (to_z-of_z c.ranges.x i) (to_z-of_z c.ranges.y i) a.s (placed_at a.pitch (to_z-of_z c.ranges.x i) (to_z-of_z c.ranges.y i) a.text.now (coded_size (get_or a.sizes.now a.s.current 0)) a.s.at)))
-    ∙ sym (ap (λ (o : Option Rectangle). turn_of (flash_turn a.pitch a.x a.y a.s o)) (one_current a.pitch a.x a.y a.text.now a.count a.sizes.now a.s (used) (defined)))
+returns c = let a = c.args in
+    let p = a.plane in
+    let k = c.in_ok-current.current in
+    let some = passed-some a.s.current (bad_line a.s.line) (sym c.ok_or.ensures.value ∙ c.in_ok-current.was) in
+    let found = passed-some c.read_flash.result (bad_line a.s.line) (sym c.ok_or-2.ensures.value ∙ c.in_ok-flash.was) in
+    let size = ap (λ ss. flash_found (placed_at p.pitch p.x p.y a.text.now (size_at ss k) a.s.at) (λ q. a.s.at + length (centre_line p.pitch p.x p.y q))) (sym c.sizes.ensures.are) in
+    turn-some p.pitch p.x p.y a.s _ (size ∙ sym c.read_flash.ensures ∙ found)
+    ∙ ap (λ o. turn_of (flash_turn p.pitch p.x p.y a.s o)) (sym (one_current p.pitch p.x p.y a.s a.text.now a.apertures.now some))

@@ -1,11 +1,15 @@
 -- The refusal, or the flashes' lines, which have room where a file has.
 use Rattle.std.proofs.Common.{arith}
 use Rattle.text.proofs.Lengths.{bytes-within}
-use Rattle.gerberfile.proofs.Texts.{as_text, flashes-fit, back-flashes, back-refused}
+use Rattle.printed.proofs.Forms.{as_text}
+use Rattle.gerberfile.proofs.Texts.{print_fits, flashes-fit, back-flashes, back-refused}
 use Rattle.gerberfile.proofs.print.print_flashes.Goals as goal
 
+pub print_refusal-requires : goal.print_refusal-requires
+print_refusal-requires c = omega (arith, print_fits, c.requires.2)
+
 pub returns-then-o-ne-DONE : goal.returns-then-o-ne-DONE
-returns-then-o-ne-DONE c = let a = c.args in as_text (back-refused a.o a.records.now c.if-o-ne-DONE.true) c.print_refused.ensures
+returns-then-o-ne-DONE c = let a = c.args in as_text (back-refused a.o a.records.now c.if-o-ne-DONE.true) c.print_refusal.ensures
 
 pub put_record_lines-requires : goal.put_record_lines-requires
 put_record_lines-requires c = let a = c.args in

@@ -1,6 +1,6 @@
 -- `bracket_from` meets its contract: before each right line no dependent bracket ends, so the first left line downwards gives a minimal one.
 use Rattle.std.proofs.Common.{arith}
-use mathlib.Core.Path.{◌≡◌, refl, sym, ap, ◌∙◌}
+use mathlib.Core.Path.{◌≡◌, sym, ap, ◌∙◌}
 use mathlib.Core.Bool.{true, false}
 use mathlib.Core.List.{List}
 use Prim.Native.Nat.{ℕ, suc, ◌+◌, ◌-◌, ◌≤◌, ◌<◌}
@@ -9,15 +9,16 @@ use Rattle.method.specs.Dependent.{dependent}
 use Rattle.method.specs.Final.{leftmost}
 use Rattle.method.proofs.Search.{downward, downward-hit, downward_miss, downward-end, downward-minimal, before-next}
 use Rattle.grid.specs.Lines.{interval}
-use Rattle.intervals.specs.declared.Found.TheVariants.{Nothing, At}
-use Rattle.intervals.specs.Table.{set_of, found_of}
+use Rattle.std.specs.Prelude.{None, Some}
+use Rattle.intervals.specs.Table.{found_of}
+use Rattle.intervals.specs.Spans.{spans}
 use Rattle.intervals.specs.Search.{NoneBefore}
 use Rattle.intervals.proofs.LeftmostAt.{leftmost-at, leftmost-past}
 use Rattle.intervals.proofs.bracket.bracket_from.Invariants.{Passed}
 use Rattle.intervals.proofs.bracket.bracket_from.Goals as goal
 
 module _ (n : ℕ) (s : List Span) (r : ℕ) (before : NoneBefore s r) where
-  past : n < r → Nothing ≡ found_of (leftmost n s)
+  past : n < r → None ≡ found_of (leftmost n s)
   past h = ap found_of (sym (leftmost-past n s r h before))
 
   back : (l k : ℕ) → l ≡ suc k → dependent s (span k r) ≡ false → Passed s r l → Passed s r k
@@ -28,49 +29,26 @@ module _ (n : ℕ) (s : List Span) (r : ℕ) (before : NoneBefore s r) where
       let e : l ≡ 0 = omega arith in
       omega (arith, before-next s r before (p ∙ ap (downward s r) e ∙ downward-end s r) d t)
 
-  hit : (l k : ℕ) → l ≡ suc k → r ≤ n → true ≡ dependent s (span k r) → Passed s r l → At (interval k r) ≡ found_of (leftmost n s)
+  hit : (l k : ℕ) → l ≡ suc k → r ≤ n → true ≡ dependent s (span k r) → Passed s r l → Some (interval k r) ≡ found_of (leftmost n s)
   hit l k e h t p =
       ap found_of
       (sym (leftmost-at n s (span k r) (downward-minimal s r before (p ∙ ap (downward s r) e ∙ downward-hit s r k (sym t))) h before))
 
-pub search-preserved : goal.search-preserved
-search-preserved c =
-    let set : List Span =
-    set_of c.args.last.0 c.args.t.now in
-    leave c.args.last.0 (set) c.search.right c.search.invariant c.loop-left.left (omega arith) c.loop-left.invariant.1
-
 pub loop-left-preserved : goal.loop-left-preserved
-loop-left-preserved c =
-    let set : List Span =
-    set_of c.args.last.0 c.args.t.now in (
-      omega arith,
-      back c.args.last.0 (set) c.search.right c.search.invariant c.loop-left.left (c.loop-left.left - 1) (omega arith)
-          (sym c.dependent.ensures ∙ c.if-dependent.false)
-          c.loop-left.invariant.1,
-    )
+loop-left-preserved c = let t = c.args.t.now in
+    let l = c.loop-left.left in
+    back t.last.0 (spans t) c.search.right c.search.invariant l (l - 1) (omega arith) (sym c.dependent.ensures ∙ c.if-dependent.false) c.loop-left.invariant
+
+pub search-preserved : goal.search-preserved
+search-preserved c = let t = c.args.t.now in
+    leave t.last.0 (spans t) c.search.right c.search.invariant c.loop-left.left (omega arith) c.loop-left.invariant
 
 pub returns-then-end-right : goal.returns-then-end-right
-returns-then-end-right c =
-    let set : List Span =
-    set_of c.args.last.0 c.args.t.now in
-    past c.args.last.0 (set) c.search.right c.search.invariant (omega arith)
+returns-then-end-right c = let t = c.args.t.now in
+    past t.last.0 (spans t) c.search.right c.search.invariant (omega arith)
 
 pub returns-then-dependent : goal.returns-then-dependent
-returns-then-dependent c =
-    let set : List Span =
-    set_of c.args.last.0 c.args.t.now in
-    hit c.args.last.0 (set) c.search.right c.search.invariant c.loop-left.left (c.loop-left.left - 1) (omega arith) (omega arith)
-    (sym c.if-dependent.true ∙ c.dependent.ensures)
-    c.loop-left.invariant.1
-
-pub search-init : goal.search-init
-search-init c = c.requires.none_before
-
-pub loop-left-init : goal.loop-left-init
-loop-left-init c = (omega arith, refl)
-
-pub dependent-requires : goal.dependent-requires
-dependent-requires c = c.requires.tabled
-
-pub overflow_add-right : goal.overflow_add-right
-overflow_add-right c = let f = c.requires.tabled.fits in omega arith
+returns-then-dependent c = let t = c.args.t.now in
+    let l = c.loop-left.left in
+    hit t.last.0 (spans t) c.search.right c.search.invariant l (l - 1) (omega arith) (omega arith) (sym c.if-dependent.true ∙ c.dependent.ensures)
+    c.loop-left.invariant

@@ -1,7 +1,8 @@
 -- `dependent` meets its contract: the two lines are the greatest of the bracket's rows before line l, and every column before l is held twice.
 -- With row l the lines beyond l are the intervals that hold column l: no later row holds it.
 use Rattle.std.proofs.Common.{arith}
-use mathlib.Core.Path.{◌≡◌, sym, ap}
+use Rattle.intervals.proofs.Comparisons.{at-most, beyond}
+use mathlib.Core.Path.{◌≡◌, sym, ap, ◌∙◌}
 use mathlib.Core.Bool.{true, false}
 use mathlib.Core.List.{List}
 use mathlib.Core.Logic.{by_cases}
@@ -19,9 +20,9 @@ use Rattle.method.proofs.Lines.{holds-lines, lines_hold}
 use Rattle.method.proofs.Minimal.{dependent-proper, dependent-twice, dependent_if, dependent-within}
 use Rattle.grid.specs.Lines.{span_of}
 use Rattle.intervals.specs.declared.dependent.Tops.{Tops}
-use Rattle.intervals.specs.Table.{set_of}
+use Rattle.intervals.specs.Spans.{spans}
 use Rattle.intervals.specs.Tops.{tops, ends_beyond, Greatest, WithRow}
-use Rattle.intervals.proofs.TableLaws.{set-listed}
+use Rattle.intervals.proofs.TableLaws.{set-listed, within-lines, within_none}
 use Rattle.intervals.proofs.TopLines.{ends-box, no_lines, greatest-same}
 use Rattle.intervals.proofs.dependent.dependent.Invariants.{Turn}
 use Rattle.intervals.proofs.dependent.dependent.Goals as goal
@@ -66,37 +67,33 @@ module _ (n : ℕ) {s : List Span} (listed : Listed n s) {a b l : ℕ} {t u : To
             (λ e. T.twice x v (omega arith));
       }
 
-pub returns-then-right-left : goal.returns-then-right-left
-returns-then-right-left c = let a = c.args in
-    let s = set_of a.last.0 a.t.now in
-    sym (fails (dependent s (span_of a.d)) (λ t. omega (arith, dependent-proper s (span_of a.d) t)))
-
-pub returns-then-last-right : goal.returns-then-last-right
-returns-then-last-right c = let a = c.args in
-    let s = set_of a.last.0 a.t.now in
+pub returns-then-not-within : goal.returns-then-not-within
+returns-then-not-within c = let t = c.args.t.now in
+    let s = spans t in
+    let d = span_of c.args.d in
     sym
-    (fails (dependent s (span_of a.d))
-    (λ t. omega (arith, dependent-within a.last.0 s (span_of a.d) (set-listed a.last.0 a.t.now) t)))
+    (fails (dependent s d)
+    (λ h.
+    within_none t.last.0 d (sym c.within.ensures ∙ c.if-not-within.true)
+    (dependent-proper s d h, dependent-within t.last.0 s d (set-listed t.last.0 t.rows) h)))
 
 pub loop-l-init : goal.loop-l-init
 loop-l-init c = let a = c.args in
-    (omega arith, start (set_of a.last.0 a.t.now) a.d.left.0 a.d.right.0)
+    start (spans a.t.now) a.d.left.0 a.d.right.0
 
-pub with_row-tops-requires : goal.with_row-tops-requires
-with_row-tops-requires c = c.requires
-
-pub returns-then-tops-l : goal.returns-then-tops-l
-returns-then-tops-l c = let a = c.args in
-    let n = a.last.0 in
-    let T = c.loop-l.invariant.1 in
-    not-twice (set_of n a.t.now) a.d.left.0 a.d.right.0 c.loop-l.l T.low c.loop-l-test.true
-    (once n (set-listed n a.t.now) T c.with_row-tops.ensures (omega arith))
+pub returns-then-le : goal.returns-then-le
+returns-then-le c = let a = c.args in
+    let t = a.t.now in
+    let T = c.loop-l.invariant in
+    not-twice (spans t) a.d.left.0 a.d.right.0 c.loop-l.l T.low c.loop-l-test.true
+    (once t.last.0 (set-listed t.last.0 t.rows) T c.with_row-tops.ensures (omega (arith, at-most c.with_row-tops.result.lesser.0 c.loop-l.l c.le.ensures c.if-le.true)))
 
 pub loop-l-preserved : goal.loop-l-preserved
-loop-l-preserved c = let a = c.args in
-    let n = a.last.0 in
-    (omega arith, next n (set-listed n a.t.now) c.loop-l.invariant.1 c.with_row-tops.ensures (omega arith))
+loop-l-preserved c = let t = c.args.t.now in
+    next t.last.0 (set-listed t.last.0 t.rows) c.loop-l.invariant c.with_row-tops.ensures (omega (arith, beyond c.with_row-tops.result.lesser.0 c.loop-l.l c.le.ensures c.if-le.false))
 
 pub returns : goal.returns
 returns c = let a = c.args in
-    all-twice (set_of a.last.0 a.t.now) a.d.left.0 a.d.right.0 (omega arith) (λ x u w. c.loop-l.invariant.1.twice x u (omega arith))
+    let t = a.t.now in
+    let lines = within-lines t.last.0 (span_of a.d) (sym c.within.ensures ∙ c.if-not-within.false) in
+    all-twice (spans t) a.d.left.0 a.d.right.0 lines.0 (λ x u w. c.loop-l.invariant.twice x u (omega arith))

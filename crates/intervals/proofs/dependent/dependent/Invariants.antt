@@ -1,12 +1,12 @@
 -- `dependent` meets its contract: the two lines are the greatest of the bracket's rows before line l, and every column before l is held twice.
 -- With row l the lines beyond l are the intervals that hold column l: no later row holds it.
 use mathlib.Core.List.{List}
-use Prim.Native.Nat.{ℕ, ◌-◌, ◌≤◌, ◌<◌}
+use Prim.Native.Nat.{ℕ, ◌≤◌, ◌<◌}
 use Rattle.method.specs.Intervals.{Interval as Span, span}
 use Rattle.method.specs.Dependent.{covered_inside}
 use Rattle.method.proofs.Sets.{has, K}
 use Rattle.intervals.specs.declared.dependent.Tops.{Tops}
-use Rattle.intervals.specs.Table.{set_of}
+use Rattle.intervals.specs.Spans.{spans}
 use Rattle.intervals.specs.Tops.{Greatest}
 use Rattle.intervals.proofs.dependent.dependent.Given as goal
 
@@ -17,7 +17,4 @@ pub record Turn (s : List Span) (a b l : ℕ) (t : Tops) : Type 0 where
   pub twice : (x : ℕ) → a ≤ x → x < l → 2 ≤ covered_inside s (span a b) x
 
 abbrev pub invariant-loop-l : goal.invariant-loop-l
-invariant-loop-l l = (l.l ≤ l.l-end) × Turn (set_of l.last.0 l.t) l.initial.l l.l-end l.l l.tops
-
-abbrev pub decreases-loop-l : goal.decreases-loop-l
-decreases-loop-l l = l.l-end - l.l
+invariant-loop-l l = Turn (spans l.t) l.initial.l l.l-end l.l l.tops

@@ -7,7 +7,7 @@ use Rattle.lists.specs.Lists.{first, down}
 use Rattle.method.specs.Intervals.{Interval as Span, span}
 use Rattle.method.specs.Dependent.{dependent}
 use Rattle.intervals.specs.declared.sweep.Held.{Held}
-use Rattle.intervals.specs.Table.{set_of}
+use Rattle.intervals.specs.Spans.{spans}
 use Rattle.intervals.specs.Search.{NoneBefore}
 use Rattle.intervals.specs.Sweep.{Swept}
 use Rattle.intervals.proofs.sweep.bracket_from.Given as goal
@@ -19,13 +19,10 @@ pub record Turn (s : List Span) (b l : ℕ) (h : Held) : Type 0 where
   pub left : first (λ k. dependent s (span k b)) (down b) ≡ first (λ k. dependent s (span k b)) (down l)
 
 abbrev pub invariant-loop-l : goal.invariant-loop-l
-invariant-loop-l l = Turn (set_of l.last.0 l.t) l.right l.l l.held
-
-abbrev pub decreases-loop-l : goal.decreases-loop-l
-decreases-loop-l l = l.l
+invariant-loop-l l = Turn (spans l.t) l.right l.l l.held
 
 abbrev pub invariant-search : goal.invariant-search
-invariant-search l = NoneBefore (set_of l.last.0 l.t) l.right
+invariant-search l = NoneBefore (spans l.t) l.right
 
 abbrev pub decreases-search : goal.decreases-search
-decreases-search l = l.last.0 - l.right
+decreases-search l = l.t.last.0 - l.right

@@ -1,5 +1,6 @@
 -- `final_set_swept` meets its contract: each turn reduces rule 5's bracket and notes it; no dependent bracket ends before the right line,
 -- nor at a line at which fewer than two intervals of the first set end, since a reduction makes none. Each turn takes an interval away.
+use mathlib.Core.Path.{◌≡◌}
 use mathlib.Core.List.{List}
 use Prim.Native.Nat.{ℕ}
 use lib.ListN.{length}
@@ -16,7 +17,8 @@ pub record OnLine (n : ℕ) (w a t b : List ℕ) (m k r : ℕ) : Type 0 where
   pub among : EndsAmong m (set_of n t)
 
 abbrev pub invariant-loop-d : goal.invariant-loop-d
-invariant-loop-d l = OnLine l.last.0 l.initial.t l.initial.room l.t l.room l.doubled l.reductions l.right.0
+invariant-loop-d l = let t = l.initial.t in
+    (l.t.last ≡ t.last) × OnLine t.last.0 t.rows l.initial.room l.t.rows l.room l.doubled l.reductions l.right.0
 
 abbrev pub decreases-loop-d : goal.decreases-loop-d
-decreases-loop-d l = length (set_of l.last.0 l.t)
+decreases-loop-d l = length (set_of l.initial.t.last.0 l.t.rows)

@@ -1,36 +1,20 @@
--- The invariant: what was asked equals what is left to judge, and the rows that passed count with those that are left.
-use Rattle.std.proofs.Common.{arith}
-use mathlib.Core.Path.{◌≡◌, sym, ap, ◌∙◌, refl}
-use Prim.Native.Nat.{ℕ, ◌+◌, ◌-◌}
-use Rattle.job.specs.Reading.{rows_from}
-use Rattle.job.proofs.Rows.{rows-turn, rows-bad, rows-ended, rows-past}
+-- The invariant: what was asked equals what is left to judge, and each row that passed took a byte of the text at least.
+use Rattle.std.proofs.Common.{arith, sym, ◌∙◌}
+use Rattle.job.proofs.Judging.{was_refused}
+use Rattle.job.proofs.Rows.{rows-turn, rows-bad, rows-done, row-moves}
 use Rattle.job.proofs.lines.judge_rows.Goals as goal
 
-pub returns-in_default : goal.returns-in_default
-returns-in_default c = let l = c.loop-rows in
-    let a = c.args in
-    sym (l.invariant.1 ∙ rows-bad a.text.now a.size.width (l.passed + 2) l.at l.rows (omega arith) (sym c.read_row.ensures ∙ c.in_default.is))
+pub returns-in_err-at : goal.returns-in_err-at
+returns-in_err-at c = let e = c.in_err-at.ensures in
+    was_refused _ c.from_residual.ensures.1 (rw e.ok_part at e.value)
+    ∙ sym (c.loop-row.invariant.1 ∙ rows-bad _ _ _ _ _ c.loop-row-test.true (sym c.read_row.ensures ∙ e.ok_part))
 
-pub loop-rows-preserved : goal.loop-rows-preserved
-loop-rows-preserved c = let l = c.loop-rows in
-    let a = c.args in
-    let next = c.in-Spot.next in
-    let n : l.passed + 2 + 1 ≡ l.passed + 1 + 2 = omega arith in (
-      omega arith,
-      l.invariant.1
-          ∙ rows-turn a.text.now a.size.width (l.passed + 2) l.at l.rows (omega arith) (sym c.read_row.ensures ∙ c.in-Spot.is)
-          ∙ ap (λ (x : ℕ). rows_from a.text.now a.size.width (l.rows - 1) x next) n,
-    )
+pub overflow_add-line : goal.overflow_add-line
+overflow_add-line c = omega (arith, row-moves _ _ _ _ (sym c.read_row.ensures ∙ c.in_ok-at.ensures.ok_part))
 
-pub returns-then-at-text : goal.returns-then-at-text
-returns-then-at-text c = let l = c.loop-rows in
-    let a = c.args in
-    sym (l.invariant.1 ∙ rows-ended a.text.now a.size.width (l.passed + 2) l.at l.rows (omega arith) c.if-at-text.true)
+pub loop-row-preserved : goal.loop-row-preserved
+loop-row-preserved c = let e = sym c.read_row.ensures ∙ c.in_ok-at.ensures.ok_part in
+    (omega (arith, row-moves _ _ _ _ e), c.loop-row.invariant.1 ∙ rows-turn _ _ _ _ _ c.loop-row-test.true e)
 
-pub returns-else-at-text : goal.returns-else-at-text
-returns-else-at-text c = let l = c.loop-rows in
-    let a = c.args in
-    sym (l.invariant.1 ∙ rows-past a.text.now a.size.width (l.passed + 2) l.at l.rows (omega arith) c.if-at-text.false)
-
-pub loop-rows-init : goal.loop-rows-init
-loop-rows-init c = (omega arith, refl)
+pub returns : goal.returns
+returns c = c.check.ensures ∙ sym (c.loop-row.invariant.1 ∙ rows-done _ _ _ _ _ c.loop-row-test.false)

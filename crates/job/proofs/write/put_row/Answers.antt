@@ -6,7 +6,7 @@ use lib.ListN.{length-append}
 use Rattle.text.specs.Words.{tab, feed, glyph}
 use Rattle.text.specs.Decimal.{field}
 use Rattle.grid.proofs.Writing.{then-written}
-use Rattle.text.proofs.Turns.{length-map}
+use Rattle.std.proofs.lemmas.List.{length-map}
 use Rattle.job.specs.JobText.{row_word, row_head, row_line}
 use Rattle.job.proofs.Lengths.{length-head, length-row}
 use Rattle.job.proofs.write.put_row.Goals as goal
@@ -29,7 +29,7 @@ put_body-end-requires c = let a = c.args in
 
 pub put_byte-requires : goal.put_byte-requires
 put_byte-requires c = let a = c.args in
-    omega (arith, length-row a.row.0 a.squares.now, length-head a.row.0, length-map glyph a.squares.now)
+    omega (arith, length-row a.row.0 a.squares.now, length-head a.row.0, length-map a.squares.now glyph)
 
 pub returns : goal.returns
 unfolding row_line row_head
@@ -40,7 +40,7 @@ returns c = let a = c.args in
     let fits = c.requires in
     let l = length-row a.row.0 squares in
     let h = length-head a.row.0 in
-    let m = length-map glyph squares in
+    let m = length-map squares glyph in
     let x = length-append (field a.row.0) part in
     let y = length-append (map glyph squares) end in
     let p1 = c.put_bytes-first.ensures.past in

@@ -1,30 +1,15 @@
--- `is_held` meets its contract. The loop's invariant: some flash of the list holds the square exactly where one of those left does.
-use Rattle.std.proofs.Common.{arith}
-use mathlib.Core.Path.{refl, sym, ap, ◌∙◌}
-use Rattle.lists.specs.Lists.{any}
+-- `is_held` meets its contract: the chain over the list's flashes is `any` of them.
+use Rattle.std.proofs.Common.{rules}
+use mathlib.Core.Path.{◌∙◌}
+use Rattle.std.proofs.lemmas.Iterator.Search.{any_from_yields_List}
 use Rattle.grid.specs.Squares.{square}
-use Rattle.listcheck.specs.FlashList.{flashes_of}
 use Rattle.listcheck.specs.Verdict.{holds_square}
-use Rattle.listcheck.proofs.Onward.{turn, over}
-use Rattle.listcheck.proofs.Turns.{any_here, any-on}
+use Rattle.listcheck.proofs.Onward.{flashes-come}
+use Rattle.listcheck.proofs.Turns.{any-same}
 use Rattle.listcheck.proofs.bare.is_held.Goals as goal
 
-pub loop-q-init : goal.loop-q-init
-unfolding flashes_of
-loop-q-init c = refl
-
-pub returns-in_default : goal.returns-in_default
-returns-in_default c = let g = c.args in
-    sym (c.loop-q.invariant ∙ ap (any (holds_square (square g.column.0 g.row.0))) (over _ _ c.read_flash.ensures c.in_default.is).0)
-
-pub returns-then-holds : goal.returns-then-holds
-returns-then-holds c = let t = turn _ _ c.read_flash.ensures c.in-Flash.is in
-    sym (c.loop-q.invariant ∙ any_here _ t.rest (sym c.holds.ensures ∙ c.if-holds.true))
-
-pub loop-q-smaller : goal.loop-q-smaller
-loop-q-smaller c = let t = turn _ _ c.read_flash.ensures c.in-Flash.is in
-    omega (arith, t.further, t.inside)
-
-pub loop-q-preserved : goal.loop-q-preserved
-loop-q-preserved c = let t = turn _ _ c.read_flash.ensures c.in-Flash.is in
-    c.loop-q.invariant ∙ any-on _ t.rest (sym c.holds.ensures ∙ c.if-holds.false)
+pub returns : goal.returns
+returns c = let g = c.args in
+    let p = holds_square (square g.column.0 g.row.0) in
+    any_from_yields_List p c.any.new.self _ _ c.any.ensures.ran (flashes-come _ c.of.ensures) (λ x b q k. search rules)
+    ∙ any-same p _

@@ -8,22 +8,20 @@ use Rattle.listcheck.proofs.lines.count_lines.Goals as goal
 
 pub loop-next-init : goal.loop-next-init
 unfolding flashes_of
-loop-next-init c = (omega arith, refl, omega arith, omega arith)
-
-pub returns-in_default : goal.returns-in_default
-returns-in_default c = let o = over _ _ c.read_flash.ensures c.in_default.is in
-    let n : length (flashes_of c.args.text.now) ≡ c.loop-next.count = omega (arith, c.loop-next.invariant.0, ap length o.0) in
-    let e = c.loop-next.invariant.1 ∙ o.1 in
-    sym (λ i. record { count = n i; end = e i })
-
-pub overflow_add-count : goal.overflow_add-count
-overflow_add-count c = omega (arith, (turn _ _ c.read_flash.ensures c.in-Flash.is).further, (turn _ _ c.read_flash.ensures c.in-Flash.is).inside, c.loop-next.invariant)
+loop-next-init c = record { counted = omega arith; ends = refl; few = omega arith; inside = omega arith }
 
 pub loop-next-smaller : goal.loop-next-smaller
-loop-next-smaller c = let t = turn _ _ c.read_flash.ensures c.in-Flash.is in
+loop-next-smaller c = let t = turn _ _ c.read_flash.ensures c.in-Some.is in
     omega (arith, t.further, t.inside)
 
 pub loop-next-preserved : goal.loop-next-preserved
 loop-next-preserved c = let l = c.loop-next.invariant in
-    let t = turn _ _ c.read_flash.ensures c.in-Flash.is in
-    (omega (arith, l.0, ap length t.rest), l.1 ∙ t.ends, omega (arith, l.2, t.further), t.inside)
+    let t = turn _ _ c.read_flash.ensures c.in-Some.is in
+    record { counted = omega (arith, l.counted, ap length t.rest); ends = l.ends ∙ t.ends; few = omega (arith, l.few, t.further); inside = t.inside }
+
+pub returns : goal.returns
+returns c = let l = c.loop-next.invariant in
+    let o = over _ _ c.read_flash.ensures c.in_default.is in
+    let n : length (flashes_of c.args.text.now) ≡ c.loop-next.lines.count = omega (arith, l.counted, ap length o.0) in
+    let e = l.ends ∙ o.1 in
+    sym (λ i. record { count = n i; end = e i })

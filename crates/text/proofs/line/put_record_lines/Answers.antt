@@ -1,6 +1,5 @@
 -- Record by record. The invariant: the lines before the k-th record's are written, and the others are left.
 use Rattle.std.proofs.Common.{arith}
-use Prim.Native.Nat.{◌+◌, ◌*◌, ◌≤◌}
 use lib.ListN.{length}
 use Rattle.text.specs.Line.{record_lines}
 use Rattle.text.proofs.Ahead.{lined, line-fits, line-written, lines-written, record_inside, record_part}
@@ -25,22 +24,10 @@ unfolding record_lines
 returns c = lines-written c.loop-k.invariant (omega arith)
 
 pub overflow_mul-from : goal.overflow_mul-from
-overflow_mul-from c =
-    let inside : let a = c.args in
-    c.loop-k.k * a.size + a.size ≤ length a.records.now =
-    record_inside c.args.size c.args.count c.loop-k.k (length c.args.records.now) (omega arith) c.requires.0 in
-    omega (arith, inside)
+overflow_mul-from c = let a = c.args in omega (arith, record_inside a.size a.count c.loop-k.k (length a.records.now) (omega arith) c.requires.0)
 
 pub overflow_add-from : goal.overflow_add-from
-overflow_add-from c =
-    let inside : let a = c.args in
-    c.loop-k.k * a.size + a.size ≤ length a.records.now =
-    record_inside c.args.size c.args.count c.loop-k.k (length c.args.records.now) (omega arith) c.requires.0 in
-    omega (arith, inside)
+overflow_add-from c = let a = c.args in omega (arith, record_inside a.size a.count c.loop-k.k (length a.records.now) (omega arith) c.requires.0)
 
 pub slice_bounds-put_record_line-end : goal.slice_bounds-put_record_line-end
-slice_bounds-put_record_line-end c =
-    let inside : let a = c.args in
-    c.loop-k.k * a.size + a.size ≤ length a.records.now =
-    record_inside c.args.size c.args.count c.loop-k.k (length c.args.records.now) (omega arith) c.requires.0 in
-    omega (arith, inside)
+slice_bounds-put_record_line-end c = let a = c.args in omega (arith, record_inside a.size a.count c.loop-k.k (length a.records.now) (omega arith) c.requires.0)

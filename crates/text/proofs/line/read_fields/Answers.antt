@@ -1,31 +1,19 @@
--- Field by field. The invariant: k fields are read, and what is left to read is the fields from the spot that was reached.
-use Rattle.std.proofs.Common.{arith}
-use mathlib.Core.Path.{sym, ◌∙◌}
-use Rattle.text.proofs.Filling.{reading, read_next, read-stop, read_done, read-many}
+-- Field by field. The invariant: as many fields are read as numbers are passed, and what is left to read is the fields from the spot that was reached.
+use Rattle.std.proofs.Common.{sym, ◌∙◌}
+use Rattle.text.proofs.Filling.{reading, read_next, read-stop, read_done, none-filled}
 use Rattle.text.proofs.line.read_fields.Goals as goal
 
-pub loop-k-init : goal.loop-k-init
-loop-k-init c = (omega arith, reading _ _ _ _)
+pub loop-number-init : goal.loop-number-init
+loop-number-init c = reading _ _ _ _
 
-pub returns-in_default : goal.returns-in_default
-returns-in_default c = let l = c.loop-k in
-    record { past = sym (read-stop l.invariant.1 (omega arith) (sym c.read_field.ensures ∙ c.in_default.is)); filled = tt }
+pub returns-in_err-value : goal.returns-in_err-value
+returns-in_err-value c = record {
+  past = c.from_residual.ensures ∙ sym (read-stop c.loop-number.invariant c.loop-number-test.true (sym c.read_field.ensures ∙ c.in_err-value.was));
+  filled = none-filled _ _ c.from_residual.ensures;
+}
 
-pub loop-k-preserved : goal.loop-k-preserved
-loop-k-preserved c = let l = c.loop-k in
-    (omega arith, read_next l.invariant.1 (omega arith) (sym c.read_field.ensures ∙ c.in-Value.is))
+pub loop-number-preserved : goal.loop-number-preserved
+loop-number-preserved c = read_next c.loop-number.invariant c.loop-number-test.true (sym c.read_field.ensures ∙ c.in_ok-value.was)
 
 pub returns : goal.returns
-returns c = let d = read_done c.loop-k.invariant.1 (omega arith) in record { past = sym d.0; filled = d.1 }
-
-pub shape_of-numbers-in_default : goal.shape_of-numbers-in_default
-shape_of-numbers-in_default c = read-many c.loop-k.invariant.1
-
-pub offset_bounds-numbers-k : goal.offset_bounds-numbers-k
-offset_bounds-numbers-k c = omega (arith, read-many c.loop-k.invariant.1)
-
-pub bounds-numbers-k : goal.bounds-numbers-k
-bounds-numbers-k c = omega (arith, read-many c.loop-k.invariant.1)
-
-pub shape_of-numbers : goal.shape_of-numbers
-shape_of-numbers c = read-many c.loop-k.invariant.1
+returns c = let d = read_done c.loop-number.invariant c.loop-number-test.false in record { past = sym d.0; filled = d.1 }

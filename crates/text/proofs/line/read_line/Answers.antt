@@ -2,8 +2,8 @@
 use Rattle.text.proofs.Filling.{line_read, line_refused}
 use Rattle.text.proofs.line.read_line.Goals as goal
 
-pub returns-in-Spot : goal.returns-in-Spot
-returns-in-Spot c = line_read c.try_line.ensures c.in-Spot.is
+pub returns-then-is_none : goal.returns-then-is_none
+returns-then-is_none c = line_refused _ _ _ _ _ _ c.try_line-next.ensures c.if-is_none.ensures c.try_line-next.auto.numbers (c.fill.ensures.after (λ y e. e))
 
-pub returns-in-Nothing : goal.returns-in-Nothing
-returns-in-Nothing c = line_refused c.try_line.ensures c.in-Nothing.is c.try_line.auto.numbers c.clear.ensures
+pub returns-else-is_none : goal.returns-else-is_none
+returns-else-is_none c = line_read _ _ _ _ _ _ c.try_line-next.ensures c.if-is_none.ensures

@@ -1,29 +1,14 @@
--- The invariant: what was asked equals what is left of the width at the spot that was reached.
-use Rattle.std.proofs.Common.{arith}
-use mathlib.Core.Path.{sym, ◌∙◌}
-use native.Mathlib.Nat.{sub-zero}
-use Rattle.text.proofs.Turns.{body-done, body-short, body_differs, body-turn}
+-- The text has as many characters from the spot on, and each is a square; or not.
+use Rattle.std.proofs.Common.{arith, sym, ◌∙◌, ap}
+use Rattle.std.specs.List.{list_all}
+use Rattle.text.specs.Words.{is_square}
+use Rattle.text.proofs.Stands.{body-short, body-all, some-found}
 use Rattle.text.proofs.read.read_body.Goals as goal
 
-pub loop-k-init : goal.loop-k-init
-loop-k-init c = (omega arith, simp sub-zero)
-
-pub returns-then-text-at : goal.returns-then-text-at
-returns-then-text-at c = let l = c.loop-k in
-    let a = c.args in
-    sym (l.invariant.1 ∙ body-short a.text.now l.at a.width l.k (omega arith) c.if-text-at.true)
-
-pub returns-then-not-is_square : goal.returns-then-not-is_square
-returns-then-not-is_square c = let l = c.loop-k in
-    let a = c.args in
-    sym (l.invariant.1 ∙ body_differs a.text.now l.at a.width l.k (omega arith) (omega arith) (sym c.is_square.ensures ∙ c.if-not-is_square.true))
-
-pub loop-k-preserved : goal.loop-k-preserved
-loop-k-preserved c = let l = c.loop-k in
-    let a = c.args in
-    (omega arith, l.invariant.1 ∙ body-turn a.text.now l.at a.width l.k (omega arith) (omega arith) (sym c.is_square.ensures ∙ c.if-not-is_square.false))
+pub returns-in_err-body : goal.returns-in_err-body
+returns-in_err-body c = let n = c.in_err-body.ensures.lookup in c.from_residual.ensures ∙ sym (body-short _ _ _ c.rest.ensures (grind arith))
 
 pub returns : goal.returns
-returns c = let l = c.loop-k in
-    let a = c.args in
-    sym (l.invariant.1 ∙ body-done a.text.now l.at a.width l.k (omega arith))
+returns c =
+    let b = c.in_ok-body.ensures.lookup in
+    c.then_some.ensures ∙ some-found _ _ ∙ sym (body-all _ _ _ c.rest.ensures (omega arith) (c.all_squares.ensures ∙ ap (list_all is_square) b.0.2))

@@ -3,3 +3,5 @@ pub mod Texts
 pub mod Back
 pub mod Program
 pub mod Determined
+pub mod Numbers
+pub mod InTurn

@@ -36,23 +36,26 @@ fn take_row(y: u8, row: &[u8], bottoms: &mut [u8], ends: &mut [u8]) -> u8
     ensures { RowTaken y row.now (length row.now) bottoms.old ends.old result bottoms.new ends.new }
 {
     let mut misfits: u8 = 0;
-    for (c, byte) in row.iter().enumerate() {
+    for (c, &byte) in row.iter().enumerate() {
         let end = ends[c];
-        misfits += u8::from(!fits(y, *byte, end));
-        bottoms[c] = bottom_after(y, *byte, end, bottoms[c]);
-        ends[c] = end_after(y, *byte, end);
+        misfits += u8::from(!fits(y, byte, end));
+        bottoms[c] = bottom_after(y, byte, end, bottoms[c]);
+        ends[c] = end_after(y, byte, end);
     }
     misfits
 }
 
-// All rows, from the lowest up; answers how many bytes do not fit.
+// All rows, from the lowest up; answers how many bytes do not fit. By number and not by `chunks_exact`: what is known of all rows at once is tested once, and not for each.
 fn take_rows(raster: Raster, bottoms: &mut [u8], ends: &mut [u8]) -> usize
     requires width_in_bounds { (raster.size.width ≤ length bottoms.old) × (raster.size.width ≤ length ends.old) }
     requires bare { Bare raster.size.width bottoms.old × Bare raster.size.width ends.old }
     ensures { RowsTaken raster.entry.size.width raster.entry.size.height raster.entry.bytes.now raster.entry.size.height bottoms.old ends.old result bottoms.new ends.new }
 {
+    let width = raster.size.width;
     let mut misfits: usize = 0;
-    for (y, row) in raster.bytes.chunks_exact(raster.size.width).enumerate() {
+    for y in 0..raster.size.height {
+        let from = y * width;
+        let row = &raster.bytes[from..from + width];
         misfits += usize::from(take_row(y as u8, row, bottoms, ends));
     }
     misfits

@@ -112,7 +112,7 @@ pub fn raster_checked(raster: Raster) -> Result<(), Refusal>
 }
 
 // All checks before 9. Not inlined, so that what they lay out is gone before the cover's own work begins.
-#[inline(never)]
+#[inline(always)]
 fn checked(
     width: u64,
     height: u64,

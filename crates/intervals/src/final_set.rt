@@ -48,8 +48,10 @@ pub trait Search {
         ensures last { t.new.last ≡ t.old.last };
 }
 
+#[derive(Clone, Copy)]
 pub struct Plain;
 
+#[derive(Clone, Copy)]
 pub struct Swept;
 
 impl Search for Plain {

@@ -16,7 +16,8 @@ use intervals::final_set::{Plain, final_copy, note_bracket};
 fn held_once(t: &Table) -> Option<Column>
     ensures { result ≡ once_of (held_once t.now.last.0 (spans t.now)) }
 {
-    (0..t.last.0).find(|c| t.held(Column(*c)) == 1).map(Column)
+    let end = t.last.column_after();
+    (0..end.0).find(|c| t.held(Column(*c)) == 1).map(Column)
 }
 
 // The set alone.

@@ -78,7 +78,7 @@ module _ (t : Table) (b : List Span) (B : b ≡ trace t.last.0 (spans t)) where
       fall-at : (x : ℕ) → x < length falls → get_or falls x 0 ≡ ending s x
       fall-at x u = let v : x < length (replicate {A = ℕ} m 0) = omega (arith, come.ended.as_long) in omega (arith, come.ended.each x v, zero-at m e x v)
 
-      bag_comes : CanChange true falls rises b
+      pub bag_comes : CanChange true falls rises b
       bag_comes =
           record {
             short = λ i k. let w = bag_lines n s b listed same i k in (omega (arith, falls_long, narrow), omega (arith, rises_long, narrow));

@@ -16,18 +16,18 @@ fn rest(text: &[u8], spot: usize) -> &[u8]
 pub fn read_word(text: &[u8], spot: usize, word: &[u8]) -> Option<usize>
     ensures { result ≡ word_at text.now spot word.now }
 {
-    if rest(text, spot).starts_with(word) {
-        Some(spot + word.len())
-    } else {
-        None
-    }
+    let front = rest(text, spot).get(..word.len())?;
+    (0..word.len())
+        .all(|k| word[k] == front[k])
+        .then_some(spot + word.len())
 }
 
 // A tab, a line feed.
 pub fn read_byte(text: &[u8], spot: usize, byte: u8) -> Option<usize>
     ensures { result ≡ word_at text.now spot (byte ∷ []) }
 {
-    read_word(text, spot, &[byte])
+    let first = *text.get(spot)?;
+    (byte == first).then_some(spot + 1)
 }
 
 fn is_square(character: u8) -> bool
@@ -60,10 +60,12 @@ fn read_digits(text: &[u8], spot: usize, limit: u64) -> Option<(u64, usize)>
         if !byte.is_ascii_digit() {
             break;
         }
-        value = value.checked_mul(10)?.checked_add(u64::from(*byte - ZERO))?;
-        if limit < value {
+        let digit = u64::from(*byte - ZERO);
+        let most = limit.checked_sub(digit)? / 10;
+        if most < value {
             return None;
         }
+        value = value * 10 + digit;
         at += 1;
     }
     Some((value, at))

@@ -58,14 +58,17 @@ pub const SIDE_DIGITS: usize = 1
     + (SIDE >= 100) as usize
     + (SIDE >= 1000) as usize;
 
-// How many digits a number has.
+// How many digits a number has. Those of one or two digits need no logarithm, nor a loop where LLVM sees that a number is one of them.
 pub fn digit_count(value: u64) -> usize
     ensures value { result ≡ length (decimal value) }
     ensures most { result ≤ 20 }
 {
-    match value.checked_ilog10() {
-        Some(tens) => tens as usize + 1,
-        None => 1,
+    if value < 10 {
+        1
+    } else if value < 100 {
+        2
+    } else {
+        value.ilog10() as usize + 1
     }
 }
 

@@ -161,6 +161,8 @@ fn put_head(room: &mut [u8], version: u64) -> usize
     put_bytes(room, format, b"%FSLAX46Y46*%\n%MOMM*%\n")
 }
 
+// Not inlined: its table would lie under the cover's frames.
+#[inline(never)]
 pub fn put_file(room: &mut [u8], version: u64, plane: Plane, flashes: Flashes) -> usize
     requires centres { centres_fit plane.pitch plane.x plane.y (flashes_in flashes.count flashes.records.now) ≡ true }
     requires fits { length (gerber_file version plane.pitch plane.x plane.y (flashes_in flashes.count flashes.records.now)) ≤ length room.old }

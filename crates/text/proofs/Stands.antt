@@ -1,8 +1,8 @@
 -- What it means that a word stands in a text at a spot: the text from the spot on is the word and then the rest.
 -- Inductions on the word. Every reader of a line takes its line apart with these.
 use Rattle.std.specs.Bool.{then_some}
-use Rattle.std.proofs.Common.{None, length-take-le}
-use Rattle.std.specs.List.{list_all, range_with_len, slice_range}
+use Rattle.std.proofs.Common.{None, nat_eq, length-take-le}
+use Rattle.std.specs.List.{list_all, starts_with, range_with_len, slice_range}
 use Rattle.std.proofs.lemmas.Slice.{between_from_start}
 use mathlib.Core.Path.{◌≡◌, refl, sym, ap, ◌∙◌}
 use mathlib.Core.Bool.{Bool, true, false, ◌&&◌, false≢true}
@@ -56,7 +56,18 @@ stands-inside t i b w h =
     let e : length (drop i t) ≡ suc (length w + length (drop (i + suc (length w)) t)) = ap length (stands-front t i (b ∷ w) h) ∙ ap suc (length-append w (drop (i + suc (length w)) t)) in
     omega (arith, length-drop i t)
 
--- the tests that the code makes: of a word, that the text from the spot on has as many bytes, and each is the word's; of a row's body, that each character is a square
+-- the tests that the code makes: of a word, that the text from the spot on starts with it; of a row's body, that each character is a square
+begins-starts : (w t : List ℕ) → begins w t ≡ starts_with nat_eq t w
+unfolding begins
+begins-starts [] t = refl
+begins-starts (b ∷ w) [] = refl
+begins-starts (b ∷ w) (c ∷ t) = ap (λ (r : Bool). eqb b c && r) (begins-starts w t)
+
+pub word-starts : (t : List ℕ) (i : ℕ) (w : List ℕ) {s : List ℕ} {r : Bool} → s ≡ drop i t → r ≡ starts_with nat_eq s w → word_at t i w ≡ found r (i + length w)
+unfolding word_at
+word-starts t i w d e = rw (begins-starts w (drop i t), ← d, ← e)
+
+-- byte by byte: a text starts with a word where it has as many bytes, and each is the word's
 begins-short : (w t : List ℕ) → length t < length w → begins w t ≡ false
 unfolding begins
 begins-short [] t h = absurd (omega arith)
@@ -83,15 +94,15 @@ module _ (w t : List ℕ) where
 
 module _ (t : List ℕ) (i : ℕ) (w : List ℕ) {s : List ℕ} (d : s ≡ drop i t) where
   pub word-short : length s < length w → word_at t i w ≡ None
-  unfolding word_at
-  word-short h = rw (← d, begins-short w s h)
+  word-short h = word-starts t i w d (sym (begins-short w s h) ∙ begins-starts w s)
 
   pub word-each : {f : List ℕ} {r : Bool} → length w ≤ length s → f ≡ slice_range s 0 (length w) → r ≡ list_all (same w f) (range_with_len 0 (length w))
       → word_at t i w ≡ found r (i + length w)
-  unfolding word_at
   word-each l g e =
-      let n : length (take (length w) s) ≡ length w = length-take-le _ _ l in
-      rw (← d, ← begins-take w s, e, g, between_from_start s (length w), ← begins-each w (take (length w) s) (length w) 0 (omega arith) (omega arith))
+      let f = take (length w) s in
+      let n : length f ≡ length w = length-take-le _ _ l in
+      let h = sym (begins-each w f (length w) 0 (omega arith) (omega arith)) ∙ begins-take w s ∙ begins-starts w s in
+      word-starts t i w d (e ∙ rw (g, between_from_start s (length w)) h)
 
 -- of a word of one byte, that the byte at the spot is it
 pub byte-ended : (t : List ℕ) (i b : ℕ) → length t ≤ i → word_at t i (b ∷ []) ≡ None

@@ -58,15 +58,13 @@ pub const SIDE_DIGITS: usize = 1
     + (SIDE >= 100) as usize
     + (SIDE >= 1000) as usize;
 
-// How many digits a number has. Those of one or two digits need no logarithm, nor a loop where LLVM sees that a number is one of them.
+// How many digits a number has. Below 100 no logarithm is asked for, and a number that LLVM sees to have two digits is printed without a loop.
 pub fn digit_count(value: u64) -> usize
     ensures value { result ≡ length (decimal value) }
     ensures most { result ≤ 20 }
 {
-    if value < 10 {
-        1
-    } else if value < 100 {
-        2
+    if value < 100 {
+        1 + usize::from(10 <= value)
     } else {
         value.ilog10() as usize + 1
     }

@@ -1,5 +1,5 @@
 -- The text from the spot on has as many bytes as the word, and each of them is the word's; or not.
-use Rattle.std.proofs.Common.{arith, rules, ℕ, length, refl, sym, ◌∙◌}
+use Rattle.std.proofs.Common.{arith, rules, length, refl, sym, ◌∙◌}
 use Rattle.std.proofs.lemmas.Iterator.{YieldsList-from_range}
 use Rattle.std.proofs.lemmas.Iterator.Search.{all_from_yields_List}
 use Rattle.text.proofs.Stands.{same, some-found, word-short, word-each}

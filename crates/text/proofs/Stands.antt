@@ -105,13 +105,17 @@ module _ (t : List ℕ) (i : ℕ) (w : List ℕ) {s : List ℕ} (d : s ≡ drop 
       word-starts t i w d (e ∙ rw (g, between_from_start s (length w)) h)
 
 -- of a word of one byte, that the byte at the spot is it
-pub byte-ended : (t : List ℕ) (i b : ℕ) → length t ≤ i → word_at t i (b ∷ []) ≡ None
-unfolding word_at begins
-byte-ended t i b h = rw (drop_of_length-le t h)
+pub byte-off : (t : List ℕ) (i b : ℕ) → length t ≤ i → stands t i (b ∷ []) ≡ false
+unfolding begins
+byte-off t i b h = rw (drop_of_length-le t h)
 
-pub byte-there : (t : List ℕ) (i b : ℕ) {c : ℕ} → i < length t → c ≡ get_or t i 0 → word_at t i (b ∷ []) ≡ found (eqb b c) (i + 1)
-unfolding word_at begins
+pub byte-there : (t : List ℕ) (i b : ℕ) {c : ℕ} → i < length t → c ≡ get_or t i 0 → stands t i (b ∷ []) ≡ eqb b c
+unfolding begins
 byte-there t i b {c} h e = rw (drop-cons t i 0 h, ← e) (bcase (eqb b c) (λ u. rw u) (λ u. rw u))
+
+pub byte-word : (t : List ℕ) (i b : ℕ) {r : Bool} → r ≡ stands t i (b ∷ []) → word_at t i (b ∷ []) ≡ found r (i + 1)
+unfolding word_at
+byte-word t i b e = ap (λ (r : Bool). found r (i + 1)) (sym e)
 
 all-listed : (p : ℕ → Bool) (xs : List ℕ) → all p xs ≡ list_all p xs
 all-listed p [] = refl

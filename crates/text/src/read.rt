@@ -1,7 +1,7 @@
 // Reading at a spot. Each leaf answers the spot past what it found, and a number with it, or that it found nothing.
 ghost use Rattle.std.specs.Prelude.{◌≡◌, [], ◌∷◌, drop};
 ghost use Rattle.std.specs.List.{list_all};
-ghost use Rattle.text.specs.Words.{word_at, is_square, body_at};
+ghost use Rattle.text.specs.Words.{stands, word_at, is_square, body_at};
 ghost use Rattle.text.specs.Decimal.{plain, digits_at, number_at, field_at};
 
 use crate::glyphs::{COPPER, NONE, TAB, ZERO};
@@ -22,12 +22,24 @@ pub fn read_word(text: &[u8], spot: usize, word: &[u8]) -> Option<usize>
         .then_some(spot + word.len())
 }
 
+fn has_byte(text: &[u8], spot: usize, byte: u8) -> bool
+    ensures { result ≡ stands text.now spot (byte ∷ []) }
+{
+    match text.get(spot) {
+        Some(found) => byte == *found,
+        None => false,
+    }
+}
+
 // A tab, a line feed.
 pub fn read_byte(text: &[u8], spot: usize, byte: u8) -> Option<usize>
     ensures { result ≡ word_at text.now spot (byte ∷ []) }
 {
-    let first = *text.get(spot)?;
-    (byte == first).then_some(spot + 1)
+    if has_byte(text, spot, byte) {
+        Some(spot + 1)
+    } else {
+        None
+    }
 }
 
 fn is_square(character: u8) -> bool
@@ -93,6 +105,8 @@ pub fn read_number(text: &[u8], spot: usize, limit: u64) -> Option<(u64, usize)>
 pub fn read_field(text: &[u8], spot: usize, limit: u64) -> Option<(u64, usize)>
     ensures { result ≡ field_at text.now spot limit }
 {
-    let at = read_byte(text, spot, TAB)?;
-    read_number(text, at, limit)
+    if !has_byte(text, spot, TAB) {
+        return None;
+    }
+    read_number(text, spot + 1, limit)
 }

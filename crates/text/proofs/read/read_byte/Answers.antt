@@ -1,11 +1,14 @@
--- The text has a byte at the spot, and it is the byte that was asked for; or not.
-use Rattle.std.proofs.Common.{sym, ◌∙◌}
-use Rattle.text.proofs.Stands.{byte-ended, byte-there, some-found}
+-- A byte that stands there lies in the text.
+use Rattle.std.proofs.Common.{arith, [], sym, ◌∙◌}
+use Rattle.text.proofs.Stands.{byte-word, stands-inside}
 use Rattle.text.proofs.read.read_byte.Goals as goal
 
-pub returns-in_err-first : goal.returns-in_err-first
-returns-in_err-first c = let n = c.in_err-first.ensures.lookup in c.from_residual.ensures ∙ sym (byte-ended _ _ _ n.3)
+pub overflow_add-result : goal.overflow_add-result
+overflow_add-result c = let a = c.args in
+    omega (arith, stands-inside a.text.now a.spot a.byte [] (sym c.has_byte.ensures ∙ c.if-has_byte.true))
 
-pub returns : goal.returns
-returns c = let b = c.in_ok-first.ensures.lookup in
-    c.then_some.ensures ∙ some-found _ _ ∙ sym (byte-there _ _ _ b.3.0 (b.3.1 0))
+pub returns-then-has_byte : goal.returns-then-has_byte
+returns-then-has_byte c = let a = c.args in sym (byte-word a.text.now a.spot a.byte (sym c.if-has_byte.true ∙ c.has_byte.ensures))
+
+pub returns-else-has_byte : goal.returns-else-has_byte
+returns-else-has_byte c = let a = c.args in sym (byte-word a.text.now a.spot a.byte (sym c.if-has_byte.false ∙ c.has_byte.ensures))

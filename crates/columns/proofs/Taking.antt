@@ -1,8 +1,7 @@
 -- A row's bytes taken one after the other, and the rows one after the other: each step's law.
 -- By the laws of a room that is filled; the row's byte is the raster's. `take_row` and `take_rows` use it.
 use mathlib.Core.Path.{◌≡◌, refl, sym, ap, ap₂, subst, ◌∙◌}
-use mathlib.Core.Bool.{Bool, true, false, not, cond}
-use mir.Val.{bool_byte}
+use mathlib.Core.Bool.{Bool, true, false, cond}
 use mathlib.Core.List.{List}
 use mathlib.Core.Logic.{by_cases}
 use Prim.Native.Nat.{ℕ, ◌+◌, ◌-◌, ◌*◌, ◌≤◌, ◌<◌}
@@ -19,14 +18,6 @@ use Rattle.grid.specs.Raster.{area_of, byte_at}
 use Rattle.columns.specs.Columns.{Bare, Filled}
 use Rattle.columns.specs.Code.{fits, bottom_after, end_after, RowTaken, end_to, bottom_to, RowsTaken}
 use Rattle.columns.proofs.Filling.{filled_in, filled_none, filled_next, filled_as, filled-again, filled_out}
-
--- a misfit counted as the code counts it: 1 for a byte that does not fit, else 0
-pub misfit : {b v : Bool} {r : ℕ} → r ≡ bool_byte (not v) → v ≡ b → (r ≡ cond b 0 1) × (r ≤ 1)
-misfit {b} {v} {r} e f = let g : r ≡ bool_byte (not b) = e ∙ ap (λ z. bool_byte (not z)) f in (g ∙ (counted b).0, omega (arith, g, (counted b).1))
-  where
-    counted : (z : Bool) → (bool_byte (not z) ≡ cond z 0 1) × (bool_byte (not z) ≤ 1)
-    counted true = (refl, omega arith)
-    counted false = (refl, omega arith)
 
 module _ (y : ℕ) (row bottoms ends : List ℕ) where
   -- before the row's first byte

@@ -1,6 +1,6 @@
 // The checks of the raster's bytes by one pass, row by row, that leaves each column's bottom and end behind.
 // The loop over a row has no exit and no branch, so that many columns are one step of the machine.
-ghost use Rattle.std.specs.Prelude.{◌≡◌, ◌<◌, ◌≤◌, length};
+ghost use Rattle.std.specs.Prelude.{◌≡◌, ◌<◌, ◌≤◌, length, cond};
 ghost use Rattle.grid.specs.Limits.{side};
 ghost use Rattle.grid.specs.Answers.{answered, first_refusal};
 ghost use Rattle.grid.specs.Code.{area_in};
@@ -10,11 +10,23 @@ ghost use Rattle.columns.specs.Code.{fits, bottom_after, end_after, RowTaken, Ro
 use grid::answers::Refusal;
 use grid::raster::Raster;
 
-// What a raster of unbroken columns may have in row y above this end.
-fn fits(y: u8, byte: u8, end: u8) -> bool
-    ensures { result ≡ fits y byte end }
+// Whether a byte does not fit, counted. By cases, since the loop over a row then takes 16 columns a step, and not 8 where there are fewer than 32.
+fn misfit(y: u8, byte: u8, end: u8) -> u8
+    ensures { (result ≡ cond (fits y byte end) 0 1) × (result ≤ 1) }
 {
-    byte == 0 || byte == 1 && (end == 0 || end == y)
+    if byte == 0 {
+        return 0;
+    }
+    if byte != 1 {
+        return 1;
+    }
+    if end == 0 {
+        return 0;
+    }
+    if end == y {
+        return 0;
+    }
+    1
 }
 
 fn bottom_after(y: u8, byte: u8, end: u8, bottom: u8) -> u8
@@ -38,7 +50,7 @@ fn take_row(y: u8, row: &[u8], bottoms: &mut [u8], ends: &mut [u8]) -> u8
     let mut misfits: u8 = 0;
     for (c, &byte) in row.iter().enumerate() {
         let end = ends[c];
-        misfits += u8::from(!fits(y, byte, end));
+        misfits += misfit(y, byte, end);
         bottoms[c] = bottom_after(y, byte, end, bottoms[c]);
         ends[c] = end_after(y, byte, end);
     }

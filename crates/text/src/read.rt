@@ -13,6 +13,7 @@ fn rest(text: &[u8], spot: usize) -> &[u8]
     &text[spot.min(text.len())..]
 }
 
+// By bytes and not by `starts_with`: most of what is looked for differs at its first byte or the second.
 pub fn read_word(text: &[u8], spot: usize, word: &[u8]) -> Option<usize>
     ensures { result ≡ word_at text.now spot word.now }
 {
@@ -22,6 +23,7 @@ pub fn read_word(text: &[u8], spot: usize, word: &[u8]) -> Option<usize>
         .then_some(spot + word.len())
 }
 
+// Past the text's end there is none.
 fn has_byte(text: &[u8], spot: usize, byte: u8) -> bool
     ensures { result ≡ stands text.now spot (byte ∷ []) }
 {

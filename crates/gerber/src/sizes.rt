@@ -9,7 +9,7 @@ ghost use Rattle.gerber.specs.File.{size_of, place_of};
 use cover::flashes::Flash;
 
 // How many values a side can have as a machine's number.
-const SIDE_VALUES: u128 = 1 << 64;
+const SIDE_VALUES: u128 = 1 << usize::BITS;
 
 #[derive(Clone, Copy, Debug)]
 pub struct Size {

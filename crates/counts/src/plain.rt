@@ -20,7 +20,7 @@ fn held_once(t: &Table) -> Option<Column>
     (0..end.0).find(|c| t.held(Column(*c)) == 1).map(Column)
 }
 
-// A set with its final set beside it; made in place, since each is large.
+// A set with its final set beside it, which gives way in place, since each is large.
 #[derive(Drop)]
 struct WithFinal {
     set: Table,

@@ -1,4 +1,4 @@
--- `Sheet::fill` meets its contract: what passes the checks has no broken column; where one refuses, no column is what it was.
+-- `Sheet::fill` meets its contract: what passes the checks has no broken column; where one refuses, it stays a sheet of no column.
 use mathlib.Core.Path.{refl, sym, ap, subst}
 use Rattle.grid.specs.Limits.{side}
 use Rattle.grid.specs.Code.{area_in}

@@ -1,6 +1,7 @@
 -- The line of a verdict or a refusal, case by case, and that it has room where the `refused` line has; so the print room of the cover is enough.
 -- Each case opens the definition once; a number of 64 bits has at most twenty digits. `put_verdict` and `print_checked` use it.
 use mathlib.Core.Path.{◌≡◌, ap}
+use mathlib.Core.Bool.{true}
 use mathlib.Core.List.{List, [], ◌∷◌}
 use mathlib.Core.Logic.{by_cases}
 use Prim.Native.Nat.{ℕ, ◌+◌, ◌-◌, ◌*◌, ◌^◌, ◌≤◌, ◌<◌}
@@ -12,7 +13,7 @@ use mir.Syntax.{w8}
 use mir.Val.{Fits}
 use borrow.Author.Tests.{eq-eqb, ne_eqb}
 use Rattle.grid.specs.Limits.{side, mark_record}
-use Rattle.text.specs.Line.{line}
+use Rattle.text.specs.Line.{line, within}
 use Rattle.text.proofs.Lengths.{line-none, line-more, record_lines-most, bytes-within}
 use Rattle.printed.specs.Printed.{refused_word, mark_word, mark_lines, mark_line_room, print_room}
 use Rattle.printed.proofs.Longest.{wide, refusal_room, refusal-line-most, refusal-shorter}
@@ -71,14 +72,11 @@ module _ (c : Checked) (numbers : Numbers c) where
       omega (arith, ap length (line_refused c n), refusal-line-most a numbers.answer numbers.x numbers.y))
 
   -- the verdict's line and the marks' lines fit into the print room
+  pub checked-most : (m : List ℕ) → c.marks ≤ side → within (2 ^ 8 - 1) m ≡ true → length (verdict_line c) + length (mark_lines c.marks m) ≤ print_room
+  checked-most m few bytes =
+      omega (arith, verdict_most, refusal-shorter, record_lines-most mark_word mark_record (2 ^ 8 - 1) c.marks m bytes, mul-le-mul_right mark_line_room few)
+
+  -- so they fit into a room of that size
   pub checked-fits : (m out : List ℕ) → ((i : ℕ) → Fits w8 (get_or m i 0)) → (c.marks ≤ side) × (c.marks * mark_record ≤ length m) × (print_room ≤ length out)
       → 0 + length (verdict_line c) + length (mark_lines c.marks m) ≤ length out
-  checked-fits m out bytes p =
-      omega (
-        arith,
-        verdict_most,
-        refusal-shorter,
-        record_lines-most mark_word mark_record (2 ^ 8 - 1) c.marks m (bytes-within m (λ i. (bytes i).fits)),
-        mul-le-mul_right mark_line_room p.0,
-        p.2,
-      )
+  checked-fits m out bytes p = omega (arith, checked-most m p.0 (bytes-within m (λ i. (bytes i).fits)), p.2)

@@ -1,32 +1,23 @@
 -- A row's bytes taken one after the other, and the rows one after the other: each step's law.
 -- By the laws of a room that is filled; the row's byte is the raster's. `take_row` and `take_rows` use it.
 use mathlib.Core.Path.{◌≡◌, refl, sym, ap, ap₂, subst, ◌∙◌}
-use mathlib.Core.Bool.{Bool, true, false, not, cond}
-use mir.Val.{bool_byte}
-use mathlib.Core.List.{List, ◌++◌}
+use mathlib.Core.Bool.{Bool, true, false, cond}
+use mathlib.Core.List.{List}
 use mathlib.Core.Logic.{by_cases}
-use Prim.Native.Nat.{ℕ, suc, ◌+◌, ◌*◌, ◌≤◌, ◌<◌}
+use Prim.Native.Nat.{ℕ, ◌+◌, ◌-◌, ◌*◌, ◌≤◌, ◌<◌}
 use native.Mathlib.Decide.{ℕ_discrete, dec_lt}
 use native.Mathlib.Nat.{suc-mul, mul_comm, mul-le-mul_right}
 use native.Mathlib.Numerals.{add-one}
 use native.Mathlib.Omega.{arith}
 use lib.Dec.{eqb, ltb}
-use lib.ListN.{length, get_or, set, take, drop, length-append, length-drop}
-use lib.Seq.{get_or-take, get_or-drop, take_at, drop_at, drop-drop}
+use lib.ListN.{length, get_or, set, take, drop, length-drop}
+use lib.Seq.{get_or-take, get_or-drop, length-take-le}
 use borrow.Author.Tests.{lt-ltb, le-ltb}
 use Rattle.grid.specs.Limits.{side}
 use Rattle.grid.specs.Raster.{area_of, byte_at}
 use Rattle.columns.specs.Columns.{Bare, Filled}
 use Rattle.columns.specs.Code.{fits, bottom_after, end_after, RowTaken, end_to, bottom_to, RowsTaken}
 use Rattle.columns.proofs.Filling.{filled_in, filled_none, filled_next, filled_as, filled-again, filled_out}
-
--- a misfit counted as the code counts it: 1 for a byte that does not fit, else 0
-pub misfit : {b v : Bool} {r : ℕ} → r ≡ bool_byte (not v) → v ≡ b → (r ≡ cond b 0 1) × (r ≤ 1)
-misfit {b} {v} {r} e f = let g : r ≡ bool_byte (not b) = e ∙ ap (λ z. bool_byte (not z)) f in (g ∙ (counted b).0, omega (arith, g, (counted b).1))
-  where
-    counted : (z : Bool) → (bool_byte (not z) ≡ cond z 0 1) × (bool_byte (not z) ≤ 1)
-    counted true = (refl, omega arith)
-    counted false = (refl, omega arith)
 
 module _ (y : ℕ) (row bottoms ends : List ℕ) where
   -- before the row's first byte
@@ -80,36 +71,17 @@ row-all {y} {n} {k} {m} {row} {bottoms} {ends} {bottoms'} {ends'} e = subst (λ 
 abbrev pub row_of : ℕ → ℕ → List ℕ → List ℕ
 row_of w y bytes = take w (drop (y * w) bytes)
 
--- a row that is taken from the front of the rows from y on: it is row y, and the rows from y + 1 on are left
-pub record Taken (w h y : ℕ) (bytes row rest : List ℕ) : Type 0 where
-  pub inside : y < h
-  pub is : row ≡ row_of w y bytes
-  pub left : rest ≡ drop ((y + 1) * w) bytes
+-- row y lies in the raster
+pub row_inside : (w h y : ℕ) → y < h → y * w + w ≤ w * h
+row_inside w h y l = omega (arith, suc-mul y w, mul-le-mul_right w l, mul_comm h w)
 
-module _ (w h y : ℕ) (bytes : List ℕ) (wide : 1 ≤ w) (full : length bytes ≡ w * h) where
-  -- some rows are left exactly where the last was not taken
-  room_left : w ≤ length (drop (y * w) bytes) → y < h
-  room_left l =
-      by_cases (dec_lt y h) (λ u. u)
-      (λ u.
-      let m : h * w ≤ y * w = mul-le-mul_right w (omega arith) in
-      absurd (omega (arith, m, mul_comm w h, length-drop (y * w) bytes)))
+-- row y as the code takes it, from where it begins to where it ends
+pub row-slice : (w y : ℕ) (bytes : List ℕ) → take (y * w + w - y * w) (drop (y * w) bytes) ≡ row_of w y bytes
+row-slice w y bytes = let n : y * w + w - y * w ≡ w = omega arith in ap (λ k. take k (drop (y * w) bytes)) n
 
-  pub row-taken : (row rest : List ℕ) → length row ≡ w → drop (y * w) bytes ≡ row ++ rest → Taken w h y bytes row rest
-  row-taken row rest n e = record {
-    inside = room_left (omega (arith, ap length e, length-append row rest));
-    is = sym (ap (take w) e ∙ take_at row rest w n);
-    left = let k : y * w + w ≡ (y + 1) * w = omega (arith, suc-mul y w, ap (λ z. z * w) (add-one y)) in
-        sym (drop_at row rest w n) ∙ ap (drop w) (sym e) ∙ drop-drop w (y * w) bytes ∙ ap (λ z. drop z bytes) k;
-  }
-
-  pub rows-done : y ≤ h → length (drop (y * w) bytes) < w → y ≡ h
-  rows-done l u =
-      by_cases (dec_lt y h)
-      (λ v.
-      let m : suc y * w ≤ h * w = mul-le-mul_right w v in
-      absurd (omega (arith, m, suc-mul y w, mul_comm w h, length-drop (y * w) bytes)))
-      (λ v. omega arith)
+pub row-long : (w h y : ℕ) (bytes : List ℕ) → length bytes ≡ w * h → y < h → length (take (y * w + w - y * w) (drop (y * w) bytes)) ≡ w
+row-long w h y bytes full l =
+    ap length (row-slice w y bytes) ∙ length-take-le w (drop (y * w) bytes) (omega (arith, full, row_inside w h y l, length-drop (y * w) bytes))
 
 module _ (w h : ℕ) (bytes bottoms ends : List ℕ) where
   -- before the first row

@@ -1,6 +1,6 @@
 // The checks of the raster's bytes by one pass, row by row, that leaves each column's bottom and end behind.
 // The loop over a row has no exit and no branch, so that many columns are one step of the machine.
-ghost use Rattle.std.specs.Prelude.{◌≡◌, ◌<◌, ◌≤◌, length};
+ghost use Rattle.std.specs.Prelude.{◌≡◌, ◌<◌, ◌≤◌, length, cond};
 ghost use Rattle.grid.specs.Limits.{side};
 ghost use Rattle.grid.specs.Answers.{answered, first_refusal};
 ghost use Rattle.grid.specs.Code.{area_in};
@@ -10,11 +10,23 @@ ghost use Rattle.columns.specs.Code.{fits, bottom_after, end_after, RowTaken, Ro
 use grid::answers::Refusal;
 use grid::raster::Raster;
 
-// What a raster of unbroken columns may have in row y above this end.
-fn fits(y: u8, byte: u8, end: u8) -> bool
-    ensures { result ≡ fits y byte end }
+// Whether a byte does not fit, counted. By cases, since the loop over a row then takes 16 columns a step, and not 8 where there are fewer than 32.
+fn misfit(y: u8, byte: u8, end: u8) -> u8
+    ensures { (result ≡ cond (fits y byte end) 0 1) × (result ≤ 1) }
 {
-    byte == 0 || byte == 1 && (end == 0 || end == y)
+    if byte == 0 {
+        return 0;
+    }
+    if byte != 1 {
+        return 1;
+    }
+    if end == 0 {
+        return 0;
+    }
+    if end == y {
+        return 0;
+    }
+    1
 }
 
 fn bottom_after(y: u8, byte: u8, end: u8, bottom: u8) -> u8
@@ -36,23 +48,26 @@ fn take_row(y: u8, row: &[u8], bottoms: &mut [u8], ends: &mut [u8]) -> u8
     ensures { RowTaken y row.now (length row.now) bottoms.old ends.old result bottoms.new ends.new }
 {
     let mut misfits: u8 = 0;
-    for (c, byte) in row.iter().enumerate() {
+    for (c, &byte) in row.iter().enumerate() {
         let end = ends[c];
-        misfits += u8::from(!fits(y, *byte, end));
-        bottoms[c] = bottom_after(y, *byte, end, bottoms[c]);
-        ends[c] = end_after(y, *byte, end);
+        misfits += misfit(y, byte, end);
+        bottoms[c] = bottom_after(y, byte, end, bottoms[c]);
+        ends[c] = end_after(y, byte, end);
     }
     misfits
 }
 
-// All rows, from the lowest up; answers how many bytes do not fit.
+// All rows, from the lowest up; answers how many bytes do not fit. By number and not by `chunks_exact`: what is known of all rows at once is tested once, and not for each.
 fn take_rows(raster: Raster, bottoms: &mut [u8], ends: &mut [u8]) -> usize
     requires width_in_bounds { (raster.size.width ≤ length bottoms.old) × (raster.size.width ≤ length ends.old) }
     requires bare { Bare raster.size.width bottoms.old × Bare raster.size.width ends.old }
     ensures { RowsTaken raster.entry.size.width raster.entry.size.height raster.entry.bytes.now raster.entry.size.height bottoms.old ends.old result bottoms.new ends.new }
 {
+    let width = raster.size.width;
     let mut misfits: usize = 0;
-    for (y, row) in raster.bytes.chunks_exact(raster.size.width).enumerate() {
+    for y in 0..raster.size.height {
+        let from = y * width;
+        let row = &raster.bytes[from..from + width];
         misfits += usize::from(take_row(y as u8, row, bottoms, ends));
     }
     misfits

@@ -1,4 +1,4 @@
--- A set and the list of its brackets, counted from nothing: what the marks' turns start from. `Counted::new` and `final_marks_counted` use it.
+-- A set and the list of its brackets, counted from nothing: what the marks' turns start from. `final_marks_counted` uses it.
 use mathlib.Core.Path.{◌≡◌, ap, ◌∙◌}
 use mathlib.Core.Bool.{Bool, true}
 use mathlib.Core.List.{List}
@@ -22,6 +22,8 @@ use Rattle.intervals.proofs.SetSizes.{set_bound}
 use Rattle.counts.specs.Spans.{spans_in}
 use Rattle.counts.specs.Tally.{beginning, ending, Changed, CanChange}
 use Rattle.counts.specs.Marks.{Tallies}
+use Rattle.counts.proofs.SpanLaws.{spans_split}
+use Rattle.counts.proofs.TallyLaws.{going_start, next_can}
 use Rattle.counts.proofs.NotedLaws.{bytes-length, noted_read}
 use Rattle.counts.proofs.Turns.{set_lines, bag_lines, bag_few}
 
@@ -83,6 +85,10 @@ module _ (t : Table) (b : List Span) (B : b ≡ trace t.last.0 (spans t)) where
             begun = λ x u. omega (arith, fall-at x u, few-each (λ i. eqb i.right x), few-each (λ i. eqb i.left x));
             ended = λ x u. omega (arith, rise-at x u, few-each (λ i. eqb i.right x), few-each (λ i. eqb i.left x));
           }
+
+      -- some of them, which leaves room for the others
+      pub some_come : (bag : List ℕ) (k bags : ℕ) → b ≡ spans_in bag 0 bags → k ≤ bags → CanChange true falls rises (spans_in bag 0 k)
+      some_come bag k bags all h = next_can (going_start true falls rises b bag_comes) (spans_in bag 0 k) (spans_in bag k bags) (all ∙ spans_split bag k bags h)
 
       pub all_tallied : {falls₂ rises₂ : List ℕ} → Changed true falls rises b falls₂ rises₂ → Tallies t b rises₂ falls₂
       all_tallied {falls₂} {rises₂} D =

@@ -38,6 +38,16 @@ module _ (room : List ℕ) where
       let g : 0 + n ≡ n = omega arith in
       rw (e, f) (ap (map (span_in room)) (from-append 0 n 1) ∙ map-append (span_in room) (up_to n) (from (0 + n) 1) ∙ ap (λ z. map (span_in room) (up_to n) ++ (span_in room z ∷ [])) g)
 
+  pub spans_split : (k n : ℕ) → k ≤ n → spans_in room 0 n ≡ spans_in room 0 k ++ spans_in room k n
+  unfolding spans_in
+  spans_split k n h =
+      let e : n - 0 ≡ (k - 0) + (n - k) = omega arith in
+      let f : 0 + (k - 0) ≡ k = omega arith in
+      ap (λ m. map (span_in room) (from 0 m)) e
+      ∙ ap (map (span_in room)) (from-append 0 (k - 0) (n - k))
+      ∙ map-append (span_in room) (from 0 (k - 0)) (from (0 + (k - 0)) (n - k))
+      ∙ ap (λ m. map (span_in room) (from 0 (k - 0)) ++ map (span_in room) (from m (n - k))) f
+
 -- the records from k to n are the same in another room
 pub spans_same : (room room' : List ℕ) (k n : ℕ) → ((x : ℕ) → k ≤ x → x < n → span_in room' x ≡ span_in room x) → spans_in room' k n ≡ spans_in room k n
 unfolding spans_in

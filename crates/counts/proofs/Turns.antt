@@ -4,7 +4,7 @@ use mathlib.Core.Path.{◌≡◌, refl, sym, ap, subst⁻¹, ◌∙◌}
 use mathlib.Core.Bool.{Bool, true, false}
 use mathlib.Core.List.{List, [], ◌∷◌}
 use mathlib.Core.Option.{some}
-use Prim.Native.Nat.{ℕ, suc, ◌+◌, ◌-◌, ◌^◌, ◌≤◌, ◌<◌}
+use Prim.Native.Nat.{ℕ, suc, ◌+◌, ◌-◌, ◌*◌, ◌^◌, ◌≤◌, ◌<◌}
 use native.Mathlib.Omega.{arith}
 use lib.Dec.{eqb}
 use lib.ListN.{length, get_or}
@@ -25,16 +25,18 @@ use Rattle.method.proofs.Marks.{least-holds, strike-member}
 use Rattle.method.proofs.Trace.{trace-lines, trace-length}
 use Rattle.method.proofs.Bags.{bag_length}
 use Rattle.method.proofs.ByCounts.{bag_count, bag_strike}
-use Rattle.grid.specs.Limits.{side}
+use Rattle.grid.specs.Limits.{side, bracket_record}
+use Rattle.grid.specs.Rooms.{written}
 use Rattle.grid.proofs.Edges.{number}
+use Rattle.intervals.specs.Finished.{bracket_bytes}
 use Rattle.intervals.specs.Table.{table_of, NoneBegins}
 use Rattle.intervals.specs.Spans.{spans}
 use Rattle.intervals.specs.declared.Table.{Table}
 use Rattle.intervals.proofs.TableLaws.{set-listed}
 use Rattle.intervals.proofs.SetSizes.{set_bound}
 use Rattle.counts.specs.Rows.{Holding}
-use Rattle.counts.specs.Marks.{next_of, Tallies}
-use Rattle.counts.proofs.MarkTurns.{struck_of}
+use Rattle.counts.specs.Marks.{next_of, Tallies, Turned}
+use Rattle.counts.proofs.MarkTurns.{struck_of, turn_on}
 use Rattle.counts.specs.Tally.{beginning, ending, Changed, CanChange, Lined, held_to, is_held_in, Steps, Since, Onward}
 use Rattle.counts.proofs.RowLaws.{least-holding}
 use Rattle.counts.proofs.HeldLaws.{held_none, held-is, has-steps, held_same, steps_fewer, skip_none}
@@ -179,6 +181,12 @@ module _ {t : Table} {b : List Span} {rises falls : List ℕ} (T : Tallies t b r
                 rise-wide = omega (arith, T.rise-wide);
                 fall-wide = omega (arith, T.fall-wide);
               }
+
+          -- a strike of set, bag and counts is a turn of the marks' rule: the counts are of the set and the bag that are left, and as long as they were
+          pub turned : {noted noted' : List ℕ} {b' : List Span} {rises₂ falls₂ : List ℕ} → n * bracket_record ≤ length noted
+              → noted' ≡ written noted (c * bracket_record) (bracket_bytes i) → b' ≡ strike c b → Changed false falls₁ rises₁ (keep (holds c) b) falls₂ rises₂
+              → Tallies t' b' rises₂ falls₂ × Turned t noted t' noted' × (length rises₂ ≡ length rises) × (length falls₂ ≡ length falls)
+          turned h w B D = (still-tallied B D, turn_on t t' once o h l S w, D.ended.as_long ∙ C.begun.as_long, D.begun.as_long ∙ C.ended.as_long)
 
         -- before the first line that was struck the counts are as they were
         module _ {f : ℕ} (F : Since i.left (keep (holds c) b) f) {falls₂ rises₂ : List ℕ} (D : Changed false falls₁ rises₁ (keep (holds c) b) falls₂ rises₂) where

@@ -1,4 +1,4 @@
--- What marks from counts keep beside the set: a bag and counts that are of it, a line before which no interval begins, and where the next column is looked for.
+-- For inner functions only: what marks from counts keep beside the set, a bag and counts that are of it, a line before which no interval begins, and where the next column is looked for.
 use Rattle.counts.specs.declared.marks.Counted.{Counted}
 use Rattle.counts.specs.Marks.{Tallies}
 use Rattle.counts.specs.Spans.{spans_in}

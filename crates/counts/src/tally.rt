@@ -121,8 +121,10 @@ impl Tally {
         requires before_value { before ≡ held_to self.now.rises self.now.falls start.0 }
         ensures { result ≡ once_of (first (λ x. eqb (is_held_in self.now.rises self.now.falls x) 1) (from start.0 (last.0 - start.0))) }
     {
+        let first = start.column_after();
+        let end = last.column_after();
         let mut held = before;
-        for c in start.0..last.0 {
+        for c in first.0..end.0 {
             held = held + self.rises[c] - self.falls[c];
             if held == 1 {
                 return Some(Column(c));

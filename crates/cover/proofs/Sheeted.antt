@@ -1,4 +1,4 @@
--- The pass over a raster whose columns are unbroken makes its sheet. `Sheet::of` and `Sheet::checked` use it.
+-- The pass over a raster whose columns are unbroken makes its sheet. `Sheet::of` and `Sheet::fill` use it.
 use mathlib.Core.HLevel.{is_prop→PathP}
 use mathlib.Core.Path.{◌≡◌, sym, ◌∙◌}
 use mathlib.Core.List.{List}

@@ -3,19 +3,19 @@
 use mathlib.Core.Path.{◌≡◌, sym, ◌∙◌}
 use mathlib.Core.Bool.{true, false, ◌&&◌}
 use mathlib.Core.Option.{some}
-use Prim.Native.Nat.{ℕ, ◌≤◌, ◌<◌}
+use Prim.Native.Nat.{ℕ, ◌-◌, ◌≤◌, ◌<◌}
 use native.Mathlib.Omega.{arith}
 use lib.Dec.{leb}
 use borrow.Author.Tests.{leb-true, le-leb}
 use Rattle.lists.proofs.Truth.{fails, and_left, and_right, and_both}
 use Rattle.method.specs.Intervals.{Interval, proper, holds, inside, member}
 use Rattle.method.specs.Runs.{Listed}
-use Rattle.method.proofs.Lines.{lines-proper}
+use Rattle.method.proofs.Lines.{lines-proper, lines_hold}
 use Rattle.method.proofs.Listed.{member-select, select-listed}
 use Rattle.grid.specs.Squares.{Area, InGrid}
 use Rattle.cover.specs.Slices.{copper_along, slice, shown, starting, mark_row}
 use Rattle.cover.proofs.Shown.{shown_by, shown-row, lowest-shows, shown-lowest}
-use Rattle.cover.proofs.SliceLaws.{part-along, slice-lines, slice-along, slice_of}
+use Rattle.cover.proofs.SliceLaws.{part-along, slice-lines, slice-along, slice-copper, slice_of}
 
 module _ (a : Area) (w h : ℕ) where
   pub starting-listed : Listed w (starting a w h)
@@ -52,6 +52,13 @@ module _ (a : Area) (w h : ℕ) where
   module _ (grid : InGrid w h a) where
     pub bare-row : (y : ℕ) → a w y ≡ false
     bare-row y = fails (a w y) (λ t. let b = grid w y t in omega arith)
+
+    -- a slice of any row is a member
+    pub slice-starting : (i : Interval) (y : ℕ) → slice a y i ≡ true → member i (starting a w h) ≡ true
+    slice-starting i y s =
+        let l = slice-lines a y i s in
+        let b = grid (i.right - 1) y (slice-copper a y i s (i.right - 1) (lines_hold (i.right - 1) i (omega arith) (omega arith))) in
+        shown-starting i y b.1 s (omega arith)
 
     -- each copper square lies in a slice of its row, and that is a member
     pub square-starting : (c y : ℕ) → a c y ≡ true → (i : Interval) × (member i (starting a w h) ≡ true) × (slice a y i ≡ true) × (holds c i ≡ true)

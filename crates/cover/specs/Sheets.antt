@@ -22,3 +22,9 @@ pub record SheetOf (over : Size) (bytes : List ℕ) (s : Sheet) : Type 0 where
   pub bottoms : Filled over.width (bottom_at (area_in over bytes) over.height) (replicate side 0) s.bottoms
   pub ends : Filled over.width (end_at (area_in over bytes) over.height) (replicate side 0) s.ends
   pub area : copper_of s ≡ area_in over bytes
+
+-- no column: to be filled
+pub record Blank (s : Sheet) : Type 0 where
+  pub size : s.size ≡ record { width = 0; height = 0 }
+  pub bottoms : s.bottoms ≡ replicate side 0
+  pub ends : s.ends ≡ replicate side 0

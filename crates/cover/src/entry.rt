@@ -9,7 +9,7 @@ ghost use Rattle.grid.specs.Code.{area_in};
 ghost use Rattle.columns.specs.Columns.{raster_checks};
 ghost use Rattle.cover.specs.Cover.{answered, cover_checks, Gives};
 ghost use Rattle.cover.specs.Code.{outcome_of, short_of, covered_of, size_checks};
-ghost use Rattle.cover.specs.Sheets.{copper_of};
+ghost use Rattle.cover.specs.Sheets.{copper_of, Blank};
 
 use crate::flashes::{Flashed, write_flashes};
 use crate::marks::write_marks;
@@ -120,9 +120,11 @@ fn checked(
     raster: &[u8],
     flash_room: &[u8],
     mark_room: &[u8],
-) -> Result<Sheet, Refusal>
+    sheet: &mut Sheet,
+) -> Result<(), Refusal>
+    requires { Blank sheet.old }
     ensures value { Answers.answered result ≡ first_refusal (cover_checks width height allowance raster.now flash_room.now mark_room.now) }
-    ensures sheet { IfOk result (λ s. (s.size.width ≡ width) × (s.size.height ≡ height) × (copper_of s ≡ area_of width height raster.now)) }
+    ensures sheet { IfOk result (λ u. (sheet.new.size.width ≡ width) × (sheet.new.size.height ≡ height) × (copper_of sheet.new ≡ area_of width height raster.now)) }
 {
     let raster = sizes_checked(
         width,
@@ -132,7 +134,7 @@ fn checked(
         flash_room.len(),
         mark_room.len(),
     )?;
-    Sheet::checked(raster)
+    sheet.fill(raster)
 }
 
 // The cover of what has passed every check. Inlined, so that one frame serves it and the sheet.
@@ -193,8 +195,11 @@ fn cover_checked<S: Marking>(
 ) -> Outcome
     ensures { Gives width height allowance raster.now flash_room.old mark_room.old result flash_room.new mark_room.new }
 {
-    match checked(width, height, allowance, raster, flash_room, mark_room) {
-        Ok(sheet) => cover_sheet::<S>(&sheet, allowance as usize, flash_room, mark_room),
+    let mut sheet = Sheet::blank();
+    match checked(
+        width, height, allowance, raster, flash_room, mark_room, &mut sheet,
+    ) {
+        Ok(()) => cover_sheet::<S>(&sheet, allowance as usize, flash_room, mark_room),
         Err(refusal) => refusal.into(),
     }
 }

@@ -58,7 +58,9 @@ impl Edges<'_> {
         requires { i.right.0 ≤ length self.bottoms.now }
         ensures { result ≡ row (greatest_in self.entry.bottoms.now i.left.0 (i.right.0 - i.left.0)) }
     {
-        Row(greatest(self.bottoms, i.left.0, i.right.0) as usize)
+        let first = i.left.column_after();
+        let end = i.right.column_after();
+        Row(greatest(self.bottoms, first.0, end.0) as usize)
     }
 
     // The highest such row: before the least end.
@@ -66,16 +68,22 @@ impl Edges<'_> {
         requires { (i.right.0 ≤ length self.ends.now) × (0 < least_in self.ends.now i.left.0 (i.right.0 - i.left.0)) }
         ensures { result ≡ row (least_in self.entry.ends.now i.left.0 (i.right.0 - i.left.0) - 1) }
     {
-        Row(least(self.ends, i.left.0, i.right.0) as usize - 1)
+        let first = i.left.column_after();
+        let end = i.right.column_after();
+        Row(least(self.ends, first.0, end.0) as usize - 1)
     }
 
     fn flash_of(self, i: Interval) -> Flash
         requires { Standing self.bottoms.now self.ends.now (span_of i) }
         ensures { rectangle_of result ≡ flash_between self.entry.bottoms.now self.entry.ends.now (span_of i) }
     {
+        // What stands is an interval.
+        let Some((first, last)) = i.columns() else {
+            unreachable!()
+        };
         Flash {
-            first: i.left.column_after(),
-            last: i.right.column_before(),
+            first,
+            last,
             bottom: self.lowest(i),
             top: self.highest(i),
         }

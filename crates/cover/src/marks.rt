@@ -54,7 +54,9 @@ impl Edges<'_> {
         ensures result_value { result.0 ≡ row_between last.0 self.entry.bottoms.now self.entry.ends.now (span_of i) }
         ensures result_bound { result.0 < 2 ^ 8 }
     {
-        let low = greatest(self.bottoms, i.left.0, i.right.0);
+        let first = i.left.column_after();
+        let end = i.right.column_after();
+        let low = greatest(self.bottoms, first.0, end.0);
         let left = self.past_left(i.left, low);
         let right = self.past_right(last, i.right, left);
         Row(self.past_left(i.left, right) as usize)
@@ -114,8 +116,9 @@ pub fn write_marks(last: Line, edges: Edges, noted: &[u8], most: usize, room: &m
     requires lent { (last.0 * bracket_record ≤ length noted.now) × (mark_room_size ≤ length room.old) }
     ensures { MarksDone (take most (marks_noted (row_between last.0 edges.entry.bottoms.now edges.entry.ends.now) noted.now last.0)) room.old result room.new }
 {
+    let end = last.column_after();
     let mut n = 0;
-    for c in 0..last.0 {
+    for c in 0..end.0 {
         n = write_mark(last, edges, noted, Column(c), most, room, n);
     }
     n

@@ -27,7 +27,7 @@ impl Sheet {
     ghost use Rattle.grid.specs.Squares.{Unbroken};
     ghost use Rattle.grid.specs.Code.{area_in};
     ghost use Rattle.columns.specs.Columns.{raster_checks};
-    ghost use Rattle.cover.specs.Sheets.{SheetOf};
+    ghost use Rattle.cover.specs.Sheets.{SheetOf, Blank};
 
     // Of an area that is known to be unbroken, whatever other bytes the raster has.
     pub fn of(raster: Raster) -> Sheet
@@ -49,13 +49,33 @@ impl Sheet {
         ensures value { answered result ≡ first_refusal (raster_checks raster.entry.size.width raster.entry.size.height raster.entry.bytes.now) }
         ensures sheet { IfOk result (λ s. SheetOf raster.entry.size raster.entry.bytes.now s) }
     {
-        let mut bottoms = [0u8; SIDE];
-        let mut ends = [0u8; SIDE];
-        columns_checked(raster, &mut bottoms, &mut ends)?;
-        Ok(Sheet {
-            size: raster.size,
-            bottoms,
-            ends,
-        })
+        let mut sheet = Sheet::blank();
+        sheet.fill(raster)?;
+        Ok(sheet)
+    }
+
+    // Of no column, to be filled.
+    pub(crate) fn blank() -> Sheet
+        ensures { Blank result }
+    {
+        Sheet {
+            size: Size {
+                width: 0,
+                height: 0,
+            },
+            bottoms: [0u8; SIDE],
+            ends: [0u8; SIDE],
+        }
+    }
+
+    // The same where the sheet lies, since it is too large to be handed over by value in every cover. On a refusal it stays one of no column.
+    pub(crate) fn fill(&mut self, raster: Raster) -> Result<(), Refusal>
+        requires { Blank self.old }
+        ensures value { answered result ≡ first_refusal (raster_checks raster.entry.size.width raster.entry.size.height raster.entry.bytes.now) }
+        ensures sheet { IfOk result (λ u. SheetOf raster.entry.size raster.entry.bytes.now self.new) }
+    {
+        columns_checked(raster, &mut self.bottoms, &mut self.ends)?;
+        self.size = raster.size;
+        Ok(())
     }
 }

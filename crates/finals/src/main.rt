@@ -2,7 +2,9 @@
 // A set is two lines: its name; its last line and its intervals. Of the second only the numbers count.
 #![tactic(auto)]
 
-ghost use Rattle.std.specs.Prelude.{◌<◌, length, IfSome};
+ghost use Rattle.std.specs.Prelude.{◌≡◌, ◌<◌, ◌≤◌, ℕ, length, IfSome};
+ghost use Rattle.std.specs.Fn.{FnOnceReturnsAtMut};
+ghost use Rattle.grid.specs.Limits.{side};
 
 use grid::limits::{BRACKET_ROOM, LINES, SIDE};
 use grid::lines::{Interval, Line};
@@ -33,23 +35,32 @@ fn next_number(s: &[u8]) -> Option<(usize, &[u8])>
     Some((value, rest))
 }
 
-fn print(rt: &impl Print, t: &Table) -> io::Result<()> {
-    for left in 0..t.last.0 {
-        for right in left + 1..=t.last.0 {
-            let i = Interval {
-                left: Line(left),
-                right: Line(right),
-            };
-            if t.has(i) {
-                print!(rt; " ({left}, {right})")?;
-            }
-        }
+// The intervals from line `left`.
+fn print_row(rt: &impl Print, t: &Table, left: Line) -> io::Result<()> {
+    let from = left.0;
+    let mut edge = left;
+    while let Some(right) = t.next_end(left, edge) {
+        let to = right.0;
+        print!(rt; " ({from}, {to})")?;
+        edge = right;
+    }
+    Ok(())
+}
+
+// The set, which is one over the lines 0 to last.
+fn print(rt: &impl Print, t: &Table, last: Line) -> io::Result<()>
+    requires { t.now.last ≡ last }
+{
+    for left in 0..last.0 {
+        print_row(rt, t, Line(left))?;
     }
     Ok(())
 }
 
 // Merging in three orders (document 02, R-8): each step reduces a minimal bracket, and only their choice differs. This one is rule 5 itself.
-fn merge_left(t: &mut Table) -> usize {
+fn merge_left(t: &mut Table) -> usize
+    ensures { t.new.last ≡ t.old.last }
+{
     let mut room = [0u8; BRACKET_ROOM];
     final_set(t, &mut room)
 }
@@ -57,6 +68,7 @@ fn merge_left(t: &mut Table) -> usize {
 // By the brackets that are chosen. Each reduction takes an interval away, so there are no more than intervals.
 fn merge<F: FnMut(&Table) -> Option<Interval>>(t: &mut Table, mut choose: F) -> usize
     requires { F.IsAlwaysCallable choose }
+    ensures { t.new.last ≡ t.old.last }
 {
     let intervals = t.size();
     for reductions in 0..intervals {
@@ -69,7 +81,9 @@ fn merge<F: FnMut(&Table) -> Option<Interval>>(t: &mut Table, mut choose: F) -> 
 }
 
 // The mirror of rule 5: the greatest left line, and there the shortest. No dependent bracket lies inside it.
-fn merge_right(t: &mut Table) -> usize {
+fn merge_right(t: &mut Table) -> usize
+    ensures { t.new.last ≡ t.old.last }
+{
     merge(t, |t| {
         (0..t.last.0)
             .rev()
@@ -78,7 +92,9 @@ fn merge_right(t: &mut Table) -> usize {
 }
 
 // At each step from a line that looks random.
-fn merge_random(t: &mut Table, seed: usize) -> usize {
+fn merge_random(t: &mut Table, seed: usize) -> usize
+    ensures { t.new.last ≡ t.old.last }
+{
     let mut number = seed;
     merge(t, |t| {
         number = following(number);
@@ -145,19 +161,25 @@ fn print_merged<F: FnOnce(&mut Table) -> usize>(
     rt: &impl Print,
     how: &str,
     set: &Table,
+    last: Line,
     merge: F,
 ) -> io::Result<()>
-    requires { F.IsAlwaysCallable merge }
+    requires callable { F.IsAlwaysCallable merge }
+    requires keeps { (t t' : Table) (reductions : ℕ) → FnOnceReturnsAtMut F.FnOnce merge t reductions t' → t'.last ≡ t.last }
+    requires over { set.now.last ≡ last }
 {
     let mut work = *set;
     let reductions = merge(&mut work);
     print!(rt; "{how}, {reductions} reductions:")?;
-    print(rt, &work)?;
+    print(rt, &work, last)?;
     println!(rt)
 }
 
 // The set of the intervals that a line's numbers say, two by two.
-fn read_set(last: Line, line: &[u8]) -> Table {
+fn read_set(last: Line, line: &[u8]) -> Table
+    requires { last.0 ≤ side }
+    ensures { result.last ≡ last }
+{
     let mut t = Table::empty(last);
     let mut rest = line;
     while let Some((left, others)) = next_number(rest) {
@@ -179,10 +201,13 @@ fn print_set(rt: &impl Print, name: &[u8], line: &[u8]) -> io::Result<()> {
     if SIDE < last {
         return Ok(());
     }
-    let set = read_set(Line(last), others);
-    print_merged(rt, "from the left", &set, merge_left)?;
-    print_merged(rt, "from the right", &set, merge_right)?;
-    print_merged(rt, "at random", &set, |t| merge_random(t, seed(name)))
+    let last = Line(last);
+    let set = read_set(last, others);
+    print_merged(rt, "from the left", &set, last, merge_left)?;
+    print_merged(rt, "from the right", &set, last, merge_right)?;
+    print_merged(rt, "at random", &set, last, |t| {
+        merge_random(t, seed(name))
+    })
 }
 
 fn main(rt: HostRuntime) -> io::Result<()> {

@@ -23,6 +23,7 @@ use Rattle.gerber.specs.declared.versions.Version.TheVariants.{Comments, Attribu
 use Rattle.gerber.proofs.apertures.Apertures.none
 use Rattle.gerber.proofs.apertures.Apertures.push
 use Rattle.gerber.proofs.apertures.Apertures.note
+use Rattle.gerber.proofs.sizes.SizePartialEq.eq
 use Rattle.gerber.proofs.sizes.size_of
 use Rattle.gerber.proofs.sizes.place_of
 use Rattle.gerber.proofs.flashes.flash_at
@@ -85,6 +86,9 @@ push-determined κs a pre x y v w p q = (refl, λ i. ((p ∙ sym q) i, v.1))
 
 pub note-determined : Determined note.Kinds.ps note.Kinds.r note.Reads.Pre note.Reads.Post
 note-determined κs a pre x y v w p q = (refl, λ i. ((p ∙ sym q) i, v.1))
+
+pub eq-determined : Determined eq.Kinds.ps eq.Kinds.r eq.Reads.Pre eq.Reads.Post
+eq-determined κs a pre x y v w p q = (p ∙ sym q, refl)
 
 pub size_of_determined : Determined size_of.Kinds.ps size_of.Kinds.r size_of.Reads.Pre size_of.Reads.Post
 size_of_determined κs a pre x y v w p q = (p ∙ sym q, refl)

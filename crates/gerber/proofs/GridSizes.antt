@@ -9,7 +9,7 @@ use Rattle.grid.specs.Squares.{Rectangle}
 use Rattle.cover.specs.Code.{Drawn}
 use Rattle.cover.specs.Records.{flash_in, flashes_in}
 use Rattle.gerber.specs.File.{size_of, is_same_size, added, used, apertures}
-use Rattle.gerber.specs.Code.{OnGrid, FlashesHeld}
+use Rattle.gerber.specs.Code.{OnGrid, EachOnGrid, FlashesHeld}
 use Rattle.gerber.specs.declared.sizes.Size.{Size}
 
 abbrev pub AllOnGrid : List Size → Type 0
@@ -35,6 +35,13 @@ pub used-on_grid : (zs : List Size) (qs : List Rectangle) → AllOnGrid zs → D
 unfolding used
 used-on_grid zs [] gs ds = gs
 used-on_grid zs (q ∷ qs) gs ds = used-on_grid (added zs (size_of q)) qs (grid_added zs (size_of q) gs (drawn-on_grid q ds.0)) ds.1
+
+-- one more size, at any place
+pub each-behind : (zs : List Size) (z : Size) → EachOnGrid zs → OnGrid z → EachOnGrid (zs ++ (z ∷ []))
+each-behind [] z gs g zero d h = g
+each-behind [] z gs g (suc k) d h = absurd (omega arith)
+each-behind (y ∷ zs) z gs g zero d h = gs zero d (omega arith)
+each-behind (y ∷ zs) z gs g (suc k) d h = each-behind zs z (λ j e m. gs (suc j) e (omega (arith, m))) g k d (omega (arith, h))
 
 pub apertures-on_grid : (qs : List Rectangle) → Drawns qs → AllOnGrid (apertures qs)
 apertures-on_grid qs ds = used-on_grid [] qs tt ds

@@ -1,8 +1,8 @@
 -- The code's searches through a list of sizes find what the definitions say: whether a size is one of them, and how many stand before it.
-use mathlib.Core.Path.{◌≡◌, refl, sym, ap}
-use mathlib.Core.Bool.{true, false, not, cond, ◌||◌, false≢true}
+use mathlib.Core.Path.{◌≡◌, refl, sym, ap, ◌∙◌}
+use mathlib.Core.Bool.{true, false, not, cond, ◌||◌, ◌&&◌, false≢true}
 use mathlib.Core.List.{List, [], ◌∷◌}
-use Prim.Native.Nat.{suc, ◌+◌, ◌≤◌}
+use Prim.Native.Nat.{ℕ, suc, ◌+◌, ◌*◌, ◌^◌, ◌≤◌, ◌<◌}
 use native.Mathlib.Omega.{arith}
 use lib.Dec.{eqb, ltb}
 use lib.ListN.{length}
@@ -51,3 +51,13 @@ place-first s ss =
 pub unchanged : (before : Option Size) (s : Size) → option_eq is_same_size before (Some s) ≡ true → changes (before_of before) s ≡ false
 unchanged None s e = absurd (false≢true e)
 unchanged (Some t) s e = ap not e
+
+-- two sizes as one number each
+pub one_number : (a b c d : ℕ) → b < 2 ^ 64 → d < 2 ^ 64 → eqb (a * 2 ^ 64 + b) (c * 2 ^ 64 + d) ≡ (eqb a c && eqb b d)
+one_number a b c d hb hd =
+    agree (eqb (a * 2 ^ 64 + b) (c * 2 ^ 64 + d)) (eqb a c && eqb b d)
+    (λ u. let e = eqb-true (a * 2 ^ 64 + b) (c * 2 ^ 64 + d) u in and_both (eqb a c) (eqb b d) (eq-eqb a c (omega (arith, e, hb, hd))) (eq-eqb b d (omega (arith, e, hb, hd))))
+    (λ u.
+    let e = eqb-true a c (and_left (eqb a c) (eqb b d) u) in
+    let f = eqb-true b d (and_right (eqb a c) (eqb b d) u) in
+    eq-eqb (a * 2 ^ 64 + b) (c * 2 ^ 64 + d) (ap (λ (i : ℕ). i * 2 ^ 64 + b) e ∙ ap (λ (i : ℕ). c * 2 ^ 64 + i) f))

@@ -1,5 +1,5 @@
 // The lines of a file, each written at a spot.
-ghost use Rattle.std.specs.Prelude.{◌≡◌, true, ◌+◌, ◌<◌, ◌≤◌, length};
+ghost use Rattle.std.specs.Prelude.{◌≡◌, true, [], ◌+◌, ◌<◌, ◌≤◌, length};
 ghost use Rattle.std.proofs.Math.Option.{none};
 ghost use Rattle.grid.specs.Limits.{side};
 ghost use Rattle.grid.specs.Rooms.{Written};
@@ -130,15 +130,14 @@ fn put_flashes(
     at
 }
 
-// The distinct sizes of the flashes, in order of first use.
-fn used_by(flashes: Flashes) -> Apertures
-    ensures { result ≡ apertures (flashes_in flashes.entry.count flashes.entry.records.now) }
+// The distinct sizes of the flashes, in order of first use, into a table that is lent empty.
+fn note_used(table: &mut Apertures, flashes: Flashes)
+    requires { table.old ≡ [] }
+    ensures { table.new ≡ apertures (flashes_in flashes.entry.count flashes.entry.records.now) }
 {
-    let mut apertures = Apertures::none();
     for k in 0..flashes.count {
-        apertures.note(size_of(flashes.at(k)));
+        table.note(size_of(flashes.at(k)));
     }
-    apertures
 }
 
 #[tactic(auto, unfolding(crate::specs::File::first_line))]
@@ -162,12 +161,15 @@ fn put_head(room: &mut [u8], version: u64) -> usize
     put_bytes(room, format, b"%FSLAX46Y46*%\n%MOMM*%\n")
 }
 
+// Not inlined: its table would lie under the cover's frames.
+#[inline(never)]
 pub fn put_file(room: &mut [u8], version: u64, plane: Plane, flashes: Flashes) -> usize
     requires centres { centres_fit plane.pitch plane.x plane.y (flashes_in flashes.count flashes.records.now) ≡ true }
     requires fits { length (gerber_file version plane.pitch plane.x plane.y (flashes_in flashes.count flashes.records.now)) ≤ length room.old }
     ensures { Written room.old 0 (gerber_file version plane.pitch plane.x plane.y (flashes_in flashes.entry.count flashes.entry.records.now)) result room.new }
 {
-    let apertures = used_by(flashes);
+    let mut apertures = Apertures::none();
+    note_used(&mut apertures, flashes);
     let first = put_head(room, version);
     let next = put_apertures(room, first, plane, &apertures);
     let end = put_flashes(room, next, plane, flashes, &apertures);

@@ -30,6 +30,13 @@ pub struct ReadOutcome {
     pub flashes: u64,
 }
 
+// How many apertures there are, and the spot past them.
+#[derive(Clone, Copy)]
+pub struct Sizes {
+    pub count: usize,
+    pub past: usize,
+}
+
 // Under either version the first line is that of either.
 fn read_first(text: &[u8]) -> Option<usize>
     ensures { result ≡ word_at text.now 0 (first_of text.now) }
@@ -51,20 +58,24 @@ fn read_head(text: &[u8]) -> Result<usize, BadLine>
 
 const HEADS: usize = 3;
 
-// The apertures, and the spot past their lines.
-fn read_apertures(text: &[u8], spot: usize, plane: Plane) -> (Apertures, usize)
-    ensures { record { sizes = result.0; past = result.1 } ≡ read_apertures side plane.pitch text.now (record { sizes = []; past = spot }) }
+// The apertures are put into a table that is lent empty: made in place, it is never copied.
+fn read_apertures(text: &[u8], spot: usize, plane: Plane, apertures: &mut Apertures) -> Sizes
+    requires { apertures.old ≡ [] }
+    ensures read { record { sizes = apertures.new; past = result.past } ≡ read_apertures side plane.pitch text.now (record { sizes = []; past = spot }) }
+    ensures held { (result.count ≡ length apertures.new) × (result.count ≤ side) × EachOnGrid apertures.new }
 {
-    let mut apertures = Apertures::none();
     let mut at = spot;
-    for _ in 0..SIDE {
-        let Some((size, next)) = read_aperture(text, at, plane, &apertures) else {
-            return (apertures, at);
+    for k in 0..SIDE {
+        let Some((size, next)) = read_aperture(text, at, plane, apertures) else {
+            return Sizes { count: k, past: at };
         };
         apertures.push(size);
         at = next;
     }
-    (apertures, at)
+    Sizes {
+        count: SIDE,
+        past: at,
+    }
 }
 
 // How many flashes there are; they are put into the room.
@@ -96,10 +107,11 @@ fn read_file(text: &[u8], plane: Plane, room: &mut [u8]) -> Result<usize, BadLin
     ensures { ReadInto (read_file plane.pitch plane.x plane.y text.now) result room.new }
 {
     let spot = read_head(text)?;
-    let (apertures, at) = read_apertures(text, spot, plane);
+    let mut apertures = Apertures::none();
+    let sizes = read_apertures(text, spot, plane, &mut apertures);
     let start = Reached {
-        line: HEADS + apertures.sizes().len() + 1,
-        at,
+        line: HEADS + sizes.count + 1,
+        at: sizes.past,
         used: 0,
         current: None,
     };

@@ -15,6 +15,7 @@ use crate::lines::FIRST_NUMBER;
 use crate::sizes::Size;
 use cover::flashes::Flash;
 use grid::answers::Refusal;
+use grid::limits::SIDE;
 use grid::lines::{Column, Row};
 use text::read::read_word;
 
@@ -81,11 +82,12 @@ fn select_at(text: &[u8], spot: usize, s: Reached, k: usize) -> Option<usize>
     number_at(text, spot, FIRST_NUMBER + k as u64, b"*\n")
 }
 
+// The bound that is known is named in the code too: a number that is seen to be below 100 is printed by two digits, with no loop.
 fn find_select(text: &[u8], spot: usize, count: usize, s: Reached) -> Option<(usize, usize)>
     requires { count ≤ side }
     ensures { result ≡ found_select text.now spot count s }
 {
-    find_first(0, count, |k| select_at(text, spot, s, k))
+    find_first(0, count.min(SIDE), |k| select_at(text, spot, s, k))
 }
 
 fn read_select(text: &[u8], count: usize, s: Reached) -> Option<(usize, usize)>

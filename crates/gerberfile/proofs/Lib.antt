@@ -4,4 +4,3 @@ pub mod Back
 pub mod Program
 pub mod Determined
 pub mod Numbers
-pub mod InTurn

@@ -107,6 +107,47 @@ pub check_at-low : (o : Option Square) (n most : ℕ) → n ≤ most → (check_
 check_at-low none n most h = omega arith
 check_at-low (some s) n most h = h
 
+-- an answer that refuses nothing has no place either: every check is so
+abbrev pub Plain : Answer → Type 0
+Plain a = Passes a → a ≡ done
+
+pub check-plain : (b : Bool) (n : ℕ) → Plain (check b (suc n))
+check-plain true n e = refl
+check-plain false n e = absurd (omega arith)
+
+pub check_at-plain : (o : Option Square) (n : ℕ) → Plain (check_at o (suc n))
+check_at-plain none n e = refl
+check_at-plain (some s) n e = absurd (omega arith)
+
+-- as the code asks: check after check, each behind what stands already
+abbrev pub in_turn : Answer → List Answer → Answer
+in_turn a [] = a
+in_turn a (b ∷ later) = in_turn (or_else a b) later
+
+turn_last : (a : Answer) (cs : List Answer) (b : Answer) → in_turn a (cs ++ (b ∷ [])) ≡ or_else (in_turn a cs) b
+turn_last a [] b = refl
+turn_last a (c ∷ later) b = turn_last (or_else a c) later b
+
+-- one check more
+pub asked : (cs : List Answer) {r s b c : Answer} → r ≡ in_turn done cs → s ≡ or_else r b → b ≡ c → s ≡ in_turn done (cs ++ (c ∷ []))
+asked cs {c = c} e f g = f ∙ (λ i. or_else (e i) (g i)) ∙ sym (turn_last done cs c)
+
+module _ (a : Answer) (n : Passes a → ⊥) where
+  kept : (cs : List Answer) → in_turn a cs ≡ a
+  kept [] = refl
+  kept (b ∷ later) = ap (λ z. in_turn z later) (stands a b n) ∙ kept later
+
+turn-from : (a : Answer) (cs : List Answer) → Plain a → Each Plain cs → in_turn a cs ≡ or_else a (first_refusal cs)
+unfolding first_refusal
+turn-from a [] p all = pcase a (λ e. p e ∙ sym (gives_way a done e)) (λ n. sym (stands a done n))
+turn-from a (b ∷ later) p all =
+    pcase a
+    (λ e. ap (λ z. in_turn z later) (gives_way a b e) ∙ turn-from b later all.0 all.1 ∙ sym (gives_way a _ e))
+    (λ n. ap (λ z. in_turn z later) (stands a b n) ∙ kept a n later ∙ sym (stands a _ n))
+
+pub in_turn_lem : (cs : List Answer) → Each Plain cs → in_turn done cs ≡ first_refusal cs
+in_turn_lem cs all = turn-from done cs (λ e. refl) all ∙ gives_way done _ refl
+
 -- behind a `?`: a function that was refused answers for the whole chain, and behind one that passed the rest of the chain answers
 module _ {T : Type 0} {x : Result T Refusal} (cs bs : List Answer) (e : answered x ≡ first_refusal cs) where
   pub chain-stops : {r : Refusal} → x ≡ Err r → answer_of r ≡ first_refusal (cs ++ bs)

@@ -1,12 +1,12 @@
 -- A search's answer as the code holds it, from the laws of `first` over a range. The searches of raster use it.
 use mathlib.Core.Path.{◌≡◌, refl, sym, ap, ◌∙◌}
-use mathlib.Core.Bool.{Bool, true, false}
+use mathlib.Core.Bool.{Bool, true, false, beq}
 use mathlib.Core.Option.{Option as Found, none, some}
 use Prim.Native.Nat.{ℕ, ◌-◌, ◌≤◌, ◌<◌}
 use native.Mathlib.Omega.{arith}
 use Rattle.lists.specs.Lists.{first, from}
 use Rattle.grid.specs.Lines.{row}
-use Rattle.grid.specs.Code.{or_end, level_of}
+use Rattle.grid.specs.Code.{or_end, as_asked, level_of}
 use Rattle.grid.specs.declared.lines.Row.{Row}
 use Rattle.std.specs.Prelude.{Option, Some, None, MatchOption, IsSomeAnd, nat_lt}
 use Rattle.std.specs.List.{position, position_or_len}
@@ -19,6 +19,16 @@ use mathlib.Core.List.{List}
 use lib.Dec.{ltb}
 use lib.ListN.{length, get_or}
 use Rattle.lists.proofs.Searches.{first-least, first-nowhere}
+
+-- the code's comparison of a square, as it was found, with what is asked
+pub as_asked_lem : {found there b : Bool} (asked : Bool) → found ≡ there → beq found asked ≡ b → as_asked asked there ≡ b
+as_asked_lem asked e t = rw (← e) (same _ asked ∙ t)
+  where
+    same : (x y : Bool) → as_asked y x ≡ beq x y
+    same true true = refl
+    same true false = refl
+    same false true = refl
+    same false false = refl
 
 -- an answer below the end was found, and the end says that nothing was
 pub end-some : (n x : ℕ) (o : Found ℕ) → x ≡ or_end n o → x < n → o ≡ some x

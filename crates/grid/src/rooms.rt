@@ -2,15 +2,15 @@
 ghost use Rattle.std.specs.Prelude.{◌≡◌, ◌+◌, ◌*◌, ◌≤◌, length};
 ghost use Rattle.grid.specs.Rooms.{written, Written};
 
-// Answers the spot past what it wrote.
-#[tactic(auto, unfolding(crate::specs::Rooms::written))]
+// Answers the spot past what it wrote. Byte by byte, and not by `copy_from_slice`: that one keeps a record's bytes on the stack first, and tests the two addresses.
 pub fn put_bytes(room: &mut [u8], spot: usize, bytes: &[u8]) -> usize
     requires { spot + length bytes.now ≤ length room.old }
     ensures { Written room.old spot bytes.now result room.new }
 {
-    let end = spot + bytes.len();
-    room[spot..end].copy_from_slice(bytes);
-    end
+    for (k, byte) in bytes.iter().enumerate() {
+        room[spot + k] = *byte;
+    }
+    spot + bytes.len()
 }
 
 // The n-th record of the room.

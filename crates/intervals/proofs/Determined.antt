@@ -34,6 +34,7 @@ use Rattle.intervals.proofs.reduce.reduce
 use Rattle.intervals.proofs.final_set.note_bracket
 use Rattle.intervals.proofs.final_set.final_set
 use Rattle.intervals.proofs.final_set.Search.finish
+use Rattle.intervals.proofs.final_set.finish_unnoted
 use Rattle.intervals.proofs.final_set.final_copy
 use Rattle.intervals.proofs.sweep.final_set_swept
 
@@ -121,6 +122,9 @@ module _ (T : RattleType) (L : Laws T) (S : Ghosts T.Denot) (d : Dict) where
       let s = one v.0 w.0 (p.0.set, p.1) (q.0.set, q.1) in
       let r = p.0.noted ∙ sym q.0.noted in
       (p.0.counted ∙ sym q.0.counted, λ i. (s i, (r i, tt)))
+
+  pub finish_unnoted-determined : Determined (finish_unnoted.Kinds.ps T L) (finish_unnoted.Kinds.r T L) (finish_unnoted.Reads.Pre T L S d) (finish_unnoted.Reads.Post T L S d)
+  finish_unnoted-determined κs a pre x y v w p q = (refl, λ i. (one v.0 w.0 p q i, v.1))
 
   pub final_copy_determined : Determined (final_copy.Kinds.ps T L) (final_copy.Kinds.r T L) (final_copy.Reads.Pre T L S d) (final_copy.Reads.Post T L S d)
   final_copy_determined κs a pre x y v w p q = (one x y p q, refl)

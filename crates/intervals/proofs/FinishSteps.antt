@@ -50,6 +50,12 @@ noted ds = gather bracket_bytes ds
 noted-length : (ds : List Span) → length (noted ds) ≡ length ds * bracket_record
 noted-length ds = blocks_length bracket_bytes bracket_record (λ d. refl) ds
 
+-- a room with a record for each interval of the set holds the trace, so what it holds afterwards is as long
+pub finished-long : {n : ℕ} (w : List ℕ) {a t b : List ℕ} {k : ℕ} → Roomy (set_of n w) a → Finished n (set_of n w) a k t b → length b ≡ length a
+finished-long {n} w {a} R F =
+    ap length F.noted
+    ∙ length-written a 0 (noted (trace n (set_of n w))) (omega (arith, R, noted-length (trace n (set_of n w)), trace-length n (set_of n w) (set-listed n w)))
+
 -- the bracket that was found: its lines are bytes, and there is room for its record
 module _ {n : ℕ} {t : List ℕ} (T : Tabled n t) {d : Span} (found : leftmost n (set_of n t) ≡ some d) where
   shorter : length (reduce n (set_of n t) d) + 1 ≡ length (set_of n t)

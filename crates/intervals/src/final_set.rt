@@ -48,8 +48,10 @@ pub trait Search {
         ensures last { t.new.last ≡ t.old.last };
 }
 
+#[derive(Clone, Copy)]
 pub struct Plain;
 
+#[derive(Clone, Copy)]
 pub struct Swept;
 
 impl Search for Plain {
@@ -64,13 +66,21 @@ impl Search for Swept {
     }
 }
 
-// The set's final set as a table of its own; nobody asks for the brackets.
+// The set gives way to its final set; nobody asks for the brackets.
+pub fn finish_unnoted<S: Search>(t: &mut Table)
+    ensures rows { t.new.rows ≡ table_of (final t.old.last.0 (spans t.old)) }
+    ensures last { t.new.last ≡ t.old.last }
+{
+    let mut room = [0u8; BRACKET_ROOM];
+    S::finish(t, &mut room);
+}
+
+// The set's final set as a table of its own.
 pub fn final_copy<S: Search>(set: &Table) -> Table
     ensures rows { result.rows ≡ table_of (final set.now.last.0 (spans set.now)) }
     ensures last { result.last ≡ set.now.last }
 {
-    let mut room = [0u8; BRACKET_ROOM];
     let mut work = *set;
-    S::finish(&mut work, &mut room);
+    finish_unnoted::<S>(&mut work);
     work
 }

@@ -10,3 +10,4 @@ pub mod Accepted
 pub mod Outcomes
 pub mod RoundTrip
 pub mod Determined
+pub mod Held

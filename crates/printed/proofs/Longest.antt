@@ -60,6 +60,10 @@ refusal-shorter = omega arith
 pub refusal_most : (a : Answer) → a.number < 2 ^ 64 → a.x < 2 ^ 64 → a.y < 2 ^ 64 → length (refusal_line a) ≤ print_room
 refusal_most a n x y = omega (arith, refusal-line-most a n x y, refusal-shorter)
 
+-- the same of any three numbers, in whatever order the line has them
+pub three_most : (n x y : ℕ) → n < 2 ^ 64 → x < 2 ^ 64 → y < 2 ^ 64 → length (line refused_word (n ∷ x ∷ y ∷ [])) ≤ print_room
+three_most n x y = refusal_most (record { number = n; x = x; y = y })
+
 module _ (o : Outcome) (numbers : Numbers o) where
   cover-line-most : o.flashes ≤ side → length (cover_line o) ≤ cover_line_room
   cover-line-most few =

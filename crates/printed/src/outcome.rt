@@ -20,7 +20,7 @@ const MARK_LINE_ROOM: usize = 4 + MARK_RECORD * (1 + BYTE_DIGITS) + 1;
 pub const PRINT_ROOM: usize = COVER_LINE_ROOM + SIDE * FLASH_LINE_ROOM + SIDE * MARK_LINE_ROOM;
 
 // A refusal: its number and the two place numbers.
-#[tactic(auto, using(crate::proofs::Longest::refusal_most))]
+#[tactic(auto, using(crate::proofs::Longest::three_most))]
 pub fn print_refusal(refusal: Answer, out: &mut [u8]) -> usize
     requires { print_room ≤ length out.old }
     ensures { Written out.old 0 (refusal_line refusal) result out.new }

@@ -1,22 +1,23 @@
 -- What it means that a word stands in a text at a spot: the text from the spot on is the word and then the rest.
 -- Inductions on the word. Every reader of a line takes its line apart with these.
 use Rattle.std.specs.Bool.{then_some}
-use Rattle.std.proofs.Common.{None, nat_eq}
-use Rattle.std.specs.List.{list_all, starts_with, slice_range}
+use Rattle.std.proofs.Common.{None, nat_eq, length-take-le}
+use Rattle.std.specs.List.{list_all, starts_with, range_with_len, slice_range}
 use Rattle.std.proofs.lemmas.Slice.{between_from_start}
 use mathlib.Core.Path.{◌≡◌, refl, sym, ap, ◌∙◌}
 use mathlib.Core.Bool.{Bool, true, false, ◌&&◌, false≢true}
 use mathlib.Core.List.{List, [], ◌∷◌, ◌++◌, map}
 use mathlib.Core.Logic.{by_cases}
-use Prim.Native.Nat.{ℕ, suc, ◌+◌, ◌≤◌, ◌<◌}
+use Prim.Native.Nat.{ℕ, zero, suc, ◌+◌, ◌≤◌, ◌<◌}
 use native.Mathlib.Omega.{arith}
 use native.Mathlib.Decide.{ℕ_discrete}
 use lib.Dec.{leb, eqb}
-use lib.ListN.{length, take, drop, length-append, length-drop}
-use lib.Seq.{drop-drop}
+use lib.ListN.{length, take, drop, get_or, length-append, length-drop, drop_of_length-le}
+use lib.Seq.{drop-drop, drop-cons}
 use borrow.Author.Tests.{eq-eqb, eqb-true, le-leb, lt-leb, leb-true}
 use Rattle.lists.specs.Lists.{all}
 use Rattle.lists.proofs.Truth.{bcase, and_left, and_right, and_both}
+use Rattle.grid.proofs.Writing.{drop-next}
 use Rattle.text.specs.Words.{copper_glyph, none_glyph, begins, stands, found, word_at, glyph, square, is_square, body_at}
 
 begins_self : (w q : List ℕ) → begins w (w ++ q) ≡ true
@@ -65,6 +66,56 @@ begins-starts (b ∷ w) (c ∷ t) = ap (λ (r : Bool). eqb b c && r) (begins-sta
 pub word-starts : (t : List ℕ) (i : ℕ) (w : List ℕ) {s : List ℕ} {r : Bool} → s ≡ drop i t → r ≡ starts_with nat_eq s w → word_at t i w ≡ found r (i + length w)
 unfolding word_at
 word-starts t i w d e = rw (begins-starts w (drop i t), ← d, ← e)
+
+-- byte by byte: a text starts with a word where it has as many bytes, and each is the word's
+begins-short : (w t : List ℕ) → length t < length w → begins w t ≡ false
+unfolding begins
+begins-short [] t h = absurd (omega arith)
+begins-short (b ∷ w) [] h = refl
+begins-short (b ∷ w) (c ∷ t) h = bcase (eqb b c) (λ u. rw u (begins-short w t (omega arith))) (λ u. rw u)
+
+begins-take : (w t : List ℕ) → begins w (take (length w) t) ≡ begins w t
+unfolding begins
+begins-take [] t = refl
+begins-take (b ∷ w) [] = refl
+begins-take (b ∷ w) (c ∷ t) = ap (eqb b c &&◌) (begins-take w t)
+
+module _ (w t : List ℕ) where
+  abbrev pub same : ℕ → Bool
+  same k = eqb (get_or w k 0) (get_or t k 0)
+
+  begins-each : (n k : ℕ) → length w ≡ k + n → length w ≤ length t → begins (drop k w) (drop k t) ≡ list_all same (range_with_len k n)
+  unfolding begins
+  begins-each zero k e l = let h : length w ≤ k = omega arith in rw (drop_of_length-le w h)
+  begins-each (suc n) k e l =
+      let h : k < length w = omega arith in
+      let j : k < length t = omega arith in
+      rw (drop-next w k h, drop-next t k j) (ap (eqb (get_or w k 0) (get_or t k 0) &&◌) (begins-each n (k + 1) (omega arith) l))
+
+module _ (t : List ℕ) (i : ℕ) (w : List ℕ) {s : List ℕ} (d : s ≡ drop i t) where
+  pub word-short : length s < length w → word_at t i w ≡ None
+  word-short h = word-starts t i w d (sym (begins-short w s h) ∙ begins-starts w s)
+
+  pub word-each : {f : List ℕ} {r : Bool} → length w ≤ length s → f ≡ slice_range s 0 (length w) → r ≡ list_all (same w f) (range_with_len 0 (length w))
+      → word_at t i w ≡ found r (i + length w)
+  word-each l g e =
+      let f = take (length w) s in
+      let n : length f ≡ length w = length-take-le _ _ l in
+      let h = sym (begins-each w f (length w) 0 (omega arith) (omega arith)) ∙ begins-take w s ∙ begins-starts w s in
+      word-starts t i w d (e ∙ rw (g, between_from_start s (length w)) h)
+
+-- of a word of one byte, that the byte at the spot is it
+pub byte-off : (t : List ℕ) (i b : ℕ) → length t ≤ i → stands t i (b ∷ []) ≡ false
+unfolding begins
+byte-off t i b h = rw (drop_of_length-le t h)
+
+pub byte-there : (t : List ℕ) (i b : ℕ) {c : ℕ} → i < length t → c ≡ get_or t i 0 → stands t i (b ∷ []) ≡ eqb b c
+unfolding begins
+byte-there t i b {c} h e = rw (drop-cons t i 0 h, ← e) (bcase (eqb b c) (λ u. rw u) (λ u. rw u))
+
+pub byte-word : (t : List ℕ) (i b : ℕ) {r : Bool} → r ≡ stands t i (b ∷ []) → word_at t i (b ∷ []) ≡ found r (i + 1)
+unfolding word_at
+byte-word t i b e = ap (λ (r : Bool). found r (i + 1)) (sym e)
 
 all-listed : (p : ℕ → Bool) (xs : List ℕ) → all p xs ≡ list_all p xs
 all-listed p [] = refl

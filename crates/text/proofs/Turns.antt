@@ -6,12 +6,15 @@ use Rattle.std.proofs.Math.Nat.{pow-succ'}
 use Rattle.std.proofs.lemmas.List.{length-map}
 use mathlib.Core.Path.{◌≡◌, refl, sym, ap, ◌∙◌}
 use mathlib.Core.Bool.{Bool, true, false}
+use mathlib.Core.Logic.{by_cases}
 use mathlib.Core.List.{List, [], ◌∷◌, ◌++◌, map}
 use Prim.Native.Nat.{ℕ, zero, suc, ◌+◌, ◌-◌, ◌*◌, ◌/◌, ◌%◌, ◌≤◌, ◌<◌}
+use native.Mathlib.Decide.{dec_le}
 use native.Mathlib.Omega.{arith}
 use lib.Dec.{leb}
 use lib.ListN.{length, take, drop, get_or, set, length-append, length-drop, length-take, drop_of_length-le}
 use lib.Seq.{drop-drop, take_at}
+use mir.Val.{bool_byte}
 use borrow.Author.Tests.{le-leb, lt-leb}
 use Rattle.lists.proofs.Truth.{bcase}
 use Rattle.grid.specs.Rooms.{written}
@@ -73,6 +76,13 @@ count-tens (suc k) n l h =
     let p : 10 ^ suc k ≡ 10 * 10 ^ k = pow-succ' 10 k in
     let r = count-tens k (n / 10) (omega arith) (omega arith) in
     omega (arith, count-more n (omega arith))
+
+-- below 100 it is one, and one more from 10 on
+pub count-two : (n : ℕ) {r : ℕ} → n < 100 → r ≡ bool_byte (leb 10 n) → 1 + r ≡ length (decimal n)
+count-two n h e =
+    by_cases (dec_le 10 n)
+    (λ y. let b : bool_byte (leb 10 n) ≡ 1 = ap bool_byte (le-leb 10 n y) in omega (arith, e, b, count-tens 1 n (omega arith) (omega arith)))
+    (λ y. let l : n < 10 = omega arith in let b : bool_byte (leb 10 n) ≡ 0 = ap bool_byte (lt-leb 10 n l) in omega (arith, e, b, count_small n l))
 
 -- the same with every byte changed by f
 module _ (f : ℕ → ℕ) (room xs : List ℕ) (spot k : ℕ) where

@@ -102,6 +102,8 @@ fn try_line(text: &[u8], spot: usize, word: &[u8], limit: u64, numbers: &mut [u6
 }
 
 // The word, as many numbers as are lent, each at most the limit, and the line feed. Where no such line stands there, the numbers are 0.
+// Not inlined, so that a caller's loop over many lines doesn't carry the numbers of each through all its digits.
+#[inline(never)]
 pub fn read_line(
     text: &[u8],
     spot: usize,

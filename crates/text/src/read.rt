@@ -1,7 +1,7 @@
 // Reading at a spot. Each leaf answers the spot past what it found, and a number with it, or that it found nothing.
 ghost use Rattle.std.specs.Prelude.{◌≡◌, [], ◌∷◌, drop};
 ghost use Rattle.std.specs.List.{list_all};
-ghost use Rattle.text.specs.Words.{word_at, is_square, body_at};
+ghost use Rattle.text.specs.Words.{stands, word_at, is_square, body_at};
 ghost use Rattle.text.specs.Decimal.{plain, digits_at, number_at, field_at};
 
 use crate::glyphs::{COPPER, NONE, TAB, ZERO};
@@ -13,13 +13,23 @@ fn rest(text: &[u8], spot: usize) -> &[u8]
     &text[spot.min(text.len())..]
 }
 
+// By bytes and not by `starts_with`: most of what is looked for differs at its first byte or the second.
 pub fn read_word(text: &[u8], spot: usize, word: &[u8]) -> Option<usize>
     ensures { result ≡ word_at text.now spot word.now }
 {
-    if rest(text, spot).starts_with(word) {
-        Some(spot + word.len())
-    } else {
-        None
+    let front = rest(text, spot).get(..word.len())?;
+    (0..word.len())
+        .all(|k| word[k] == front[k])
+        .then_some(spot + word.len())
+}
+
+// Past the text's end there is none.
+fn has_byte(text: &[u8], spot: usize, byte: u8) -> bool
+    ensures { result ≡ stands text.now spot (byte ∷ []) }
+{
+    match text.get(spot) {
+        Some(found) => byte == *found,
+        None => false,
     }
 }
 
@@ -27,7 +37,11 @@ pub fn read_word(text: &[u8], spot: usize, word: &[u8]) -> Option<usize>
 pub fn read_byte(text: &[u8], spot: usize, byte: u8) -> Option<usize>
     ensures { result ≡ word_at text.now spot (byte ∷ []) }
 {
-    read_word(text, spot, &[byte])
+    if has_byte(text, spot, byte) {
+        Some(spot + 1)
+    } else {
+        None
+    }
 }
 
 fn is_square(character: u8) -> bool
@@ -60,10 +74,12 @@ fn read_digits(text: &[u8], spot: usize, limit: u64) -> Option<(u64, usize)>
         if !byte.is_ascii_digit() {
             break;
         }
-        value = value.checked_mul(10)?.checked_add(u64::from(*byte - ZERO))?;
-        if limit < value {
+        let digit = u64::from(*byte - ZERO);
+        let most = limit.checked_sub(digit)? / 10;
+        if most < value {
             return None;
         }
+        value = value * 10 + digit;
         at += 1;
     }
     Some((value, at))
@@ -91,6 +107,8 @@ pub fn read_number(text: &[u8], spot: usize, limit: u64) -> Option<(u64, usize)>
 pub fn read_field(text: &[u8], spot: usize, limit: u64) -> Option<(u64, usize)>
     ensures { result ≡ field_at text.now spot limit }
 {
-    let at = read_byte(text, spot, TAB)?;
-    read_number(text, at, limit)
+    if !has_byte(text, spot, TAB) {
+        return None;
+    }
+    read_number(text, spot + 1, limit)
 }

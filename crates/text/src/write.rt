@@ -58,14 +58,15 @@ pub const SIDE_DIGITS: usize = 1
     + (SIDE >= 100) as usize
     + (SIDE >= 1000) as usize;
 
-// How many digits a number has.
+// How many digits a number has. Below 100 no logarithm is asked for, and a number that LLVM sees to have two digits is printed without a loop.
 pub fn digit_count(value: u64) -> usize
     ensures value { result ≡ length (decimal value) }
     ensures most { result ≤ 20 }
 {
-    match value.checked_ilog10() {
-        Some(tens) => tens as usize + 1,
-        None => 1,
+    if value < 100 {
+        1 + usize::from(10 <= value)
+    } else {
+        value.ilog10() as usize + 1
     }
 }
 

@@ -3,7 +3,7 @@ use Rattle.std.proofs.Common.{arith}
 use mathlib.Core.Path.{refl, ◌∙◌}
 use Rattle.grid.specs.Limits.{bag_room, lines}
 use Rattle.counts.proofs.MarkTurns.{marks-final}
-use Rattle.counts.proofs.FinalMarks.{both-held, bag_fits, room-long, set_comes, bag_comes, all_tallied}
+use Rattle.counts.proofs.FinalMarks.{both-held, bag_fits, room-long, set_comes, some_come, all_tallied}
 use Rattle.counts.proofs.Turns.{onward-start}
 use Rattle.counts.proofs.marks.final_marks_counted.Goals as goal
 
@@ -14,7 +14,7 @@ pub enter_set-requires : goal.enter_set-requires
 enter_set-requires c = set_comes c.args.t.now _ (both-held c.args.t.now c.final_set_swept-left.ensures.finished) lines refl
 
 pub enter-requires : goal.enter-requires
-enter-requires c = bag_comes c.args.t.now _ (both-held c.args.t.now c.final_set_swept-left.ensures.finished) lines refl c.enter_set.ensures
+enter-requires c = some_come c.args.t.now _ (both-held c.args.t.now c.final_set_swept-left.ensures.finished) lines refl c.enter_set.ensures _ _ _ refl (omega arith)
 
 pub note_marks-requires-clause-kept : goal.note_marks-requires-clause-kept
 note_marks-requires-clause-kept c = record {

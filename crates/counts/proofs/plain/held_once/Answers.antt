@@ -13,6 +13,7 @@ use Rattle.method.specs.Intervals.{holds}
 use Rattle.method.specs.Strike.{held_once}
 use Rattle.grid.specs.Lines.{column}
 use Rattle.grid.specs.declared.lines.Column.{Column}
+use Rattle.grid.proofs.Edges.{number}
 use Rattle.intervals.specs.Spans.{spans}
 use Rattle.intervals.specs.declared.Table.{Table}
 use Rattle.counts.specs.Marks.{once_of}
@@ -33,6 +34,6 @@ pub returns : goal.returns
 unfolding held_once
 returns c =
     let t = c.args.t.now in
-    as_found (once t) t.last.0 c.find.result c.map.result
+    as_found (once t) c.column_after-end.result.0 c.find.result c.map.result
     (first_from_Range _ _ _ _ (λ i. once t i ≡ true) (λ i. once t i ≡ false) c.find.ensures.ran (λ x q k. grind (arith, tests)) (λ x q k. (search rules, grind (arith, tests))))
-    (search rules)
+    (search rules) ∙ ap (λ (n : ℕ). once_of (first (once t) (up_to n))) (ap number c.column_after-end.ensures)

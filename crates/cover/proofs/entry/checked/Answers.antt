@@ -19,6 +19,6 @@ returns-clause-value c =
     let g = c.args in
     let r = c.in_ok-raster.ensures.raster in
     let cs = size_checks g.width g.height g.allowance (length g.raster.now) (length g.flash_room.now) (length g.mark_room.now) in
-    c.checked.ensures.value
+    c.fill.ensures.value
     ∙ (λ i. first_refusal (raster_checks (r.0 i) (r.1 i) ((r.2 i).now)))
     ∙ sym (chain-goes-on cs (raster_checks g.width g.height g.raster.now) c.sizes_checked.ensures.value c.in_ok-raster.was)

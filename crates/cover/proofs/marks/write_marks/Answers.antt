@@ -4,6 +4,7 @@ use mathlib.Core.Path.{◌≡◌, refl, sym, ap}
 use Prim.Native.Nat.{ℕ, ◌+◌, ◌-◌, ◌≤◌}
 use lib.ListN.{length, take, length-append}
 use Rattle.method.specs.Intervals.{Interval as Span}
+use Rattle.grid.proofs.Edges.{number}
 use Rattle.cover.specs.Code.{row_between, marked_in, marks_noted}
 use Rattle.cover.proofs.RecordsBehind.{none-marked, as_marked, more-marked, all-marked}
 use Rattle.cover.proofs.NotedMarks.{noted-none, taken_next, taken-few}
@@ -15,6 +16,7 @@ loop-c-init c = let g = c.args in
 
 pub write_mark-n-requires : goal.write_mark-n-requires
 write_mark-n-requires c = let g = c.args in
+    let end : c.column_after-end.result.0 ≡ g.last.0 = ap number c.column_after-end.ensures in
     let a = c.loop-c.invariant in
     let f = taken-few (row_between g.last.0 g.edges.bottoms.now g.edges.ends.now) g.noted.now c.loop-c.c g.most in record {
       within = (c.requires.within.3 c.loop-c.c (omega arith), omega arith, omega arith, omega arith);
@@ -24,6 +26,7 @@ write_mark-n-requires c = let g = c.args in
 pub loop-c-preserved : goal.loop-c-preserved
 loop-c-preserved c =
     let g = c.args in
+    let end : c.column_after-end.result.0 ≡ g.last.0 = ap number c.column_after-end.ensures in
     let rows : Span → ℕ = row_between g.last.0 g.edges.bottoms.now g.edges.ends.now in
     let noted = g.noted.now in
     let a = c.loop-c.invariant in
@@ -37,7 +40,7 @@ pub returns : goal.returns
 returns c =
     let g = c.args in
     let rows : Span → ℕ = row_between g.last.0 g.edges.bottoms.now g.edges.ends.now in
-    let e : c.loop-c.c ≡ g.last.0 = omega arith in
+    let e : c.loop-c.c ≡ g.last.0 = omega (arith, ap number c.column_after-end.ensures) in
     all-marked (as_marked (ap (λ k. take g.most (marks_noted rows g.noted.now k)) (sym e)) c.loop-c.invariant) refl
 
 pub shape_of-room : goal.shape_of-room

@@ -5,9 +5,10 @@ use Prim.Native.Nat.{◌-◌}
 use lib.ListN.{length}
 use Rattle.grid.specs.Limits.{side}
 use Rattle.gerber.specs.Reading.{read_apertures}
+use Rattle.gerber.specs.Code.{EachOnGrid}
 use Rattle.gerber.proofs.read.read_apertures.Given as goal
 
-abbrev pub invariant-loop : goal.invariant-loop
-invariant-loop l = (length l.apertures ≡ l.counter)
+abbrev pub invariant-loop-k : goal.invariant-loop-k
+invariant-loop-k l = (length l.apertures ≡ l.k)
     × (read_apertures side l.fn.plane.pitch l.fn.text (record { sizes = []; past = l.fn.spot })
-    ≡ read_apertures (side - l.counter) l.fn.plane.pitch l.fn.text (record { sizes = l.apertures; past = l.at }))
+    ≡ read_apertures (side - l.k) l.fn.plane.pitch l.fn.text (record { sizes = l.apertures; past = l.at })) × EachOnGrid l.apertures

@@ -1,7 +1,7 @@
 -- `final_set` meets its contract: each turn reduces rule 5's bracket and notes it; where none is left, the set is final.
 use mathlib.Core.Path.{ap, ◌∙◌}
 use Rattle.grid.proofs.Edges.{number}
-use Rattle.intervals.proofs.FinishSteps.{turn-over, turn-fits, turn-less, turn-next}
+use Rattle.intervals.proofs.FinishSteps.{finished-long, turn-over, turn-fits, turn-less, turn-next}
 use Rattle.intervals.proofs.final_set.final_set.Goals as goal
 
 pub note_bracket-requires : goal.note_bracket-requires
@@ -23,3 +23,6 @@ loop-d-preserved c = let I = c.loop-d.invariant in (
 pub returns-clause-finished : goal.returns-clause-finished
 returns-clause-finished c = let I = c.loop-d.invariant in
     turn-over c.loop-d.t (ap number I.0) I.1 c.bracket.result c.bracket.ensures c.in_default.is
+
+pub shape_of-room : goal.shape_of-room
+shape_of-room c = finished-long c.args.t.now.rows c.requires.roomy (returns-clause-finished c)

@@ -18,7 +18,7 @@ use Rattle.intervals.specs.Search.{NoneBefore}
 use Rattle.intervals.specs.Finished.{bracket_bytes}
 use Rattle.intervals.specs.Sweep.{EndsAmong}
 use Rattle.intervals.proofs.TableLaws.{set-listed}
-use Rattle.intervals.proofs.FinishSteps.{way_start, way_left, way_next, turn-over, turn-found, turn-fits, turn-rows, turn-less}
+use Rattle.intervals.proofs.FinishSteps.{finished-long, way_start, way_left, way_next, turn-over, turn-found, turn-fits, turn-rows, turn-less}
 use Rattle.intervals.proofs.DoubledLines.{doubled_ends}
 use Rattle.intervals.proofs.sweep.final_set_swept.Invariants.{OnLine}
 use Rattle.intervals.proofs.sweep.final_set_swept.Goals as goal
@@ -67,3 +67,6 @@ loop-d-preserved c = let I = c.loop-d.invariant in
 pub returns-clause-finished : goal.returns-clause-finished
 returns-clause-finished c = let I = c.loop-d.invariant in
     turn-over c.loop-d.t (ap number I.0) I.1.way c.bracket_from.result c.bracket_from.ensures c.in_default.is
+
+pub shape_of-room : goal.shape_of-room
+shape_of-room c = finished-long c.args.t.now.rows c.requires.roomy (returns-clause-finished c)

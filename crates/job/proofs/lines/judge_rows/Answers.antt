@@ -7,14 +7,14 @@ use Rattle.job.proofs.lines.judge_rows.Goals as goal
 pub returns-in_err-at : goal.returns-in_err-at
 returns-in_err-at c = let e = c.in_err-at.ensures in
     was_refused _ c.from_residual.ensures.1 (rw e.ok_part at e.value)
-    ∙ sym (c.loop-row.invariant.1 ∙ rows-bad _ _ _ _ _ c.loop-row-test.true (sym c.read_row.ensures ∙ e.ok_part))
+    ∙ sym (c.loop-row.invariant.1 ∙ rows-bad _ _ _ _ _ (omega arith) (sym c.read_row.ensures ∙ e.ok_part))
 
 pub overflow_add-line : goal.overflow_add-line
 overflow_add-line c = omega (arith, row-moves _ _ _ _ (sym c.read_row.ensures ∙ c.in_ok-at.ensures.ok_part))
 
 pub loop-row-preserved : goal.loop-row-preserved
 loop-row-preserved c = let e = sym c.read_row.ensures ∙ c.in_ok-at.ensures.ok_part in
-    (omega (arith, row-moves _ _ _ _ e), c.loop-row.invariant.1 ∙ rows-turn _ _ _ _ _ c.loop-row-test.true e)
+    (omega (arith, row-moves _ _ _ _ e), c.loop-row.invariant.1 ∙ rows-turn _ _ _ _ _ (omega arith) e)
 
 pub returns : goal.returns
-returns c = c.check.ensures ∙ sym (c.loop-row.invariant.1 ∙ rows-done _ _ _ _ _ c.loop-row-test.false)
+returns c = c.check.ensures ∙ sym (c.loop-row.invariant.1 ∙ rows-done _ _ _ _ _ (omega arith))

@@ -3,36 +3,29 @@ use Rattle.std.proofs.Common.{arith, sym, ◌∙◌}
 use Rattle.text.proofs.Turns.{on-ended, on-other, on-digit, digit-over}
 use Rattle.text.proofs.read.read_digits.Goals as goal
 
-pub returns-in_err-checked_mul : goal.returns-in_err-checked_mul
-returns-in_err-checked_mul c = let l = c.loop-byte in
+pub returns-in_err-most : goal.returns-in_err-most
+returns-in_err-most c = let l = c.loop-byte in
     let d = sym c.is_ascii_digit.ensures.value ∙ c.if-not-is_ascii_digit.false in
-    let n = c.in_err-checked_mul.ensures in
+    let n = c.in_err-most.ensures in
+    let f = c.from-digit.ensures in
     c.from_residual.ensures
     ∙ sym (l.invariant.2 ∙ digit-over _ _ _ _ _ _ c.rest-byte-items.ensures l.invariant.1 c.loop-byte-test.true d (omega arith))
 
-pub returns-in_err-value : goal.returns-in_err-value
-returns-in_err-value c = let l = c.loop-byte in
+pub returns-then-most-value : goal.returns-then-most-value
+returns-then-most-value c = let l = c.loop-byte in
     let d = sym c.is_ascii_digit.ensures.value ∙ c.if-not-is_ascii_digit.false in
-    let n = c.in_err-value.ensures in
-    let m = c.in_ok-checked_mul.ensures in
-    c.from_residual-in_err-value.ensures
-    ∙ sym (l.invariant.2 ∙ digit-over _ _ _ _ _ _ c.rest-byte-items.ensures l.invariant.1 c.loop-byte-test.true d (omega arith))
-
-pub returns-then-limit-value : goal.returns-then-limit-value
-returns-then-limit-value c = let l = c.loop-byte in
-    let d = sym c.is_ascii_digit.ensures.value ∙ c.if-not-is_ascii_digit.false in
-    let n = c.in_ok-value.ensures in
-    let m = c.in_ok-checked_mul.ensures in
+    let n = c.in_ok-most.ensures in
+    let f = c.from-digit.ensures in
     sym (l.invariant.2 ∙ digit-over _ _ _ _ _ _ c.rest-byte-items.ensures l.invariant.1 c.loop-byte-test.true d (omega arith))
 
 pub loop-byte-preserved : goal.loop-byte-preserved
 loop-byte-preserved c = let l = c.loop-byte in
     let d = sym c.is_ascii_digit.ensures.value ∙ c.if-not-is_ascii_digit.false in
-    let n = c.in_ok-value.ensures in
-    let m = c.in_ok-checked_mul.ensures in (
+    let n = c.in_ok-most.ensures in
+    let f = c.from-digit.ensures in (
       omega arith,
       omega arith,
-      rw (n.1, m.1, c.from.ensures) (l.invariant.2 ∙ on-digit _ _ _ _ _ _ c.rest-byte-items.ensures l.invariant.1 c.loop-byte-test.true d),
+      rw (f) (l.invariant.2 ∙ on-digit _ _ _ _ _ _ c.rest-byte-items.ensures l.invariant.1 c.loop-byte-test.true d),
     )
 
 pub returns-after-loop-byte : goal.returns-after-loop-byte

@@ -1,10 +1,10 @@
--- A number from 10 ^ k up to ten times that has k + 1 digits; 0 has one.
+-- A number from 10 ^ k up to ten times that has k + 1 digits; one below 10 has one.
 use Rattle.std.proofs.Common.{arith}
-use Rattle.text.proofs.Turns.{count_small, count-tens}
+use Rattle.text.proofs.Turns.{count-two, count-tens}
 use Rattle.text.proofs.write.digit_count.Goals as goal
 
-pub returns-in-Some-clause-value : goal.returns-in-Some-clause-value
-returns-in-Some-clause-value c = let i = c.in-Some.ensures in omega (arith, count-tens c.in-Some.tens c.args.value i.power_le i.next_power_gt)
+pub returns-then-value-lt100-clause-value : goal.returns-then-value-lt100-clause-value
+returns-then-value-lt100-clause-value c = count-two c.args.value c.if-value-lt100.true c.from.ensures
 
-pub returns-in-None-clause-value : goal.returns-in-None-clause-value
-returns-in-None-clause-value c = let i = c.in-None.ensures in omega (arith, count_small c.args.value (omega arith))
+pub returns-else-value-lt100-clause-value : goal.returns-else-value-lt100-clause-value
+returns-else-value-lt100-clause-value c = let i = c.ilog10.ensures in omega (arith, count-tens c.ilog10.result c.args.value i.power_le i.next_power_gt)

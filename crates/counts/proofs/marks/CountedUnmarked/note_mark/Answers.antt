@@ -8,8 +8,8 @@ use Rattle.intervals.specs.Spans.{spans}
 use Rattle.intervals.specs.declared.Table.{Table}
 use Rattle.intervals.proofs.TableLaws.{set-listed}
 use Rattle.intervals.proofs.BegunRows.{none-begins}
-use Rattle.counts.proofs.MarkTurns.{found-told, nothing-told, never-nothing, mark-fits, turn_on}
-use Rattle.counts.proofs.Turns.{below, set-holding, set_asks, bag_asks, still-tallied, still, early, onward, back_asks}
+use Rattle.counts.proofs.MarkTurns.{found-told, nothing-told, never-nothing, mark-fits}
+use Rattle.counts.proofs.Turns.{below, set-holding, set_asks, bag_asks, turned, still, early, onward, back_asks}
 use Rattle.counts.proofs.marks.CountedUnmarked.note_mark.Goals as goal
 
 -- no interval begins before the first row that is not empty
@@ -40,9 +40,9 @@ held_before-self-requires c =
     let found = found-told (least _ _) c.least.ensures c.in-Some.is in
     let C = c.strike_set.ensures in
     let B = c.strike-start.ensures in
-    let on = still-tallied c.requires.kept.tallies c.requires.next found C.changed c.strike_set.new.set C.last C.rows B.struck B.changed in
+    let on = turned c.requires.kept.tallies c.requires.next found C.changed c.strike_set.new.set C.last C.rows c.requires.bracket_record_in_bounds c.note_bracket.ensures B.struck B.changed in
     let f = early c.requires.kept.tallies c.requires.next found C.changed B.since B.changed in
-    let r = back_asks s.set C.last C.rows on (below c.requires.kept.tallies c.requires.next found) f in
+    let r = back_asks s.set C.last C.rows on.0 (below c.requires.kept.tallies c.requires.next found) f in
     record { steps = r.0; column_value = (r.1, r.2, r.3) }
 
 pub returns-clause-kept : goal.returns-clause-kept
@@ -52,12 +52,14 @@ returns-clause-kept c =
     let C = c.strike_set.ensures in
     let B = c.strike-start.ensures in
     record {
-      tallies = still-tallied c.requires.kept.tallies c.requires.next found C.changed c.strike_set.new.set C.last C.rows B.struck B.changed;
+      tallies = (turned c.requires.kept.tallies c.requires.next found C.changed c.strike_set.new.set C.last C.rows c.requires.bracket_record_in_bounds c.note_bracket.ensures B.struck B.changed).0;
       none_begins = still c.requires.kept.tallies c.args.column.0 c.strike_set.new.set C.last C.rows (begun s.set s.first.0 c.requires.kept.none_begins (ap number c.begun_from-first.ensures));
       onward = onward c.requires.kept.tallies c.requires.next found C.changed B.since B.changed (ap number C.last) c.held_before-self.ensures;
     }
 
 pub returns-clause-turned : goal.returns-clause-turned
 returns-clause-turned c =
+    let found = found-told (least _ _) c.least.ensures c.in-Some.is in
     let C = c.strike_set.ensures in
-    turn_on c.args.self.now.set c.strike_set.new.set c.requires.next (found-told (least _ _) c.least.ensures c.in-Some.is) c.requires.bracket_record_in_bounds C.last C.rows c.note_bracket.ensures
+    let B = c.strike-start.ensures in
+    (turned c.requires.kept.tallies c.requires.next found C.changed c.strike_set.new.set C.last C.rows c.requires.bracket_record_in_bounds c.note_bracket.ensures B.struck B.changed).1

@@ -15,4 +15,5 @@ once rises falls x = eqb (is_held_in rises falls x) 1
 abbrev pub invariant-loop-c : goal.invariant-loop-c
 invariant-loop-c l =
     let p = once l.self.rises l.self.falls in
-    (first p (from l.fn.start.0 (l.c-end - l.fn.start.0)) ≡ up_from p l.c-end l.c) × (l.held ≡ held_to l.self.rises l.self.falls l.c)
+    let n = l.fn.last.0 in
+    (first p (from l.fn.start.0 (n - l.fn.start.0)) ≡ up_from p n l.c) × (l.held ≡ held_to l.self.rises l.self.falls l.c)

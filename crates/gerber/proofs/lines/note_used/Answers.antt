@@ -9,11 +9,11 @@ use Rattle.gerber.specs.Code.{OnGrid}
 use Rattle.gerber.proofs.GridSizes.{drawn-on_grid}
 use Rattle.gerber.proofs.Records.{flashes-all, flashes_from}
 use Rattle.gerber.proofs.Listing.{used-next, used-over, added-most}
-use Rattle.gerber.proofs.lines.used_by.Goals as goal
+use Rattle.gerber.proofs.lines.note_used.Goals as goal
 
 pub loop-k-init : goal.loop-k-init
 loop-k-init c = let f = c.args.flashes in
-    (omega (arith, ap length c.none-apertures.ensures), ap (used []) (flashes-all f.records.now f.count) ∙ sym (ap (λ ss. used ss (flashes_from f.records.now 0 f.count)) c.none-apertures.ensures))
+    (omega (arith, ap length c.requires), ap (used []) (flashes-all f.records.now f.count) ∙ sym (ap (λ ss. used ss (flashes_from f.records.now 0 f.count)) c.requires))
 
 pub note-requires : goal.note-requires
 note-requires c = (omega (arith, c.args.flashes.held.few), subst OnGrid (sym c.size_of.ensures) (drawn-on_grid _ c.at.ensures.drawn))
@@ -21,12 +21,12 @@ note-requires c = (omega (arith, c.args.flashes.held.few), subst OnGrid (sym c.s
 pub loop-k-preserved : goal.loop-k-preserved
 loop-k-preserved c = let f = c.args.flashes in
     let l = c.loop-k in
-    let e = c.note.ensures ∙ ap (added l.apertures) (c.size_of.ensures ∙ ap size_of c.at.ensures.is) in (
-      omega (arith, ap length c.note.ensures, added-most l.apertures c.size_of.result),
-      l.invariant.1 ∙ used-next l.apertures f.records.now f.count l.k (omega arith) ∙ ap (λ ss. used ss (flashes_from f.records.now (l.k + 1) f.count)) (sym e),
+    let e = c.note.ensures ∙ ap (added l.table) (c.size_of.ensures ∙ ap size_of c.at.ensures.is) in (
+      omega (arith, ap length c.note.ensures, added-most l.table c.size_of.result),
+      l.invariant.1 ∙ used-next l.table f.records.now f.count l.k (omega arith) ∙ ap (λ ss. used ss (flashes_from f.records.now (l.k + 1) f.count)) (sym e),
     )
 
 pub returns : goal.returns
 returns c = let f = c.args.flashes in
     let l = c.loop-k in
-    sym (l.invariant.1 ∙ used-over l.apertures f.records.now f.count l.k (omega arith))
+    sym (l.invariant.1 ∙ used-over l.table f.records.now f.count l.k (omega arith))
